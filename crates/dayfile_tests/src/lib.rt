@@ -1,0 +1,3 @@
+// Tests of `dayfile` on examples.
+#[cfg(test)]
+mod unreadable;
