@@ -1,0 +1,2 @@
+pub mod Bunkers
+pub mod Settings
