@@ -1,4 +1,5 @@
 // Reads the day's two files, and answers whether they can be read.
+use dayfile::faults::DayFile;
 use dayfile::faults::Fault;
 use dayfile::files::MOST_BYTES;
 use dayfile::files::check_files;
@@ -32,15 +33,34 @@ fn bytes_of(rt: &LibcRuntime, folder: &str, name: &str) -> Option<Vec<u8>> {
     }
 }
 
-// Prints the fault as a table of one line.
+fn name_of(file: DayFile) -> &'static str {
+    match file {
+        DayFile::Bridge => "bridge.day",
+        DayFile::Hall => "hall.day",
+    }
+}
+
+// Prints the fault: a table of one line for programs, and a sentence for people.
 fn print_fault(rt: &LibcRuntime, fault: Fault) -> io::Result<()> {
     let file = fault.file.number();
     let line = fault.line;
     let number = fault.refusal.number().unwrap_or(0);
-    println!(rt, "file line refusal\n{file} {line} {number}")
+    println!(rt, "file line refusal\n{file} {line} {number}")?;
+    let name = name_of(fault.file);
+    eprintln!(
+        rt,
+        "{name}: missing, longer than 65,536 bytes, or not ended by a line feed"
+    )
 }
 
-// Answers for the day files of one folder: whether they can be read.
+fn slice_of(bytes: &Option<Vec<u8>>) -> Option<&[u8]> {
+    match bytes {
+        Some(v) => Some(v.as_slice()),
+        None => None,
+    }
+}
+
+// Answers for the day files of one folder.
 fn answer(rt: &LibcRuntime, folder: &str) -> Result<(), AnyError> {
     let bridge = bytes_of(rt, folder, "bridge.day");
     let hall = bytes_of(rt, folder, "hall.day");
@@ -51,29 +71,27 @@ fn answer(rt: &LibcRuntime, folder: &str) -> Result<(), AnyError> {
         }
         Err(fault) => {
             print_fault(rt, fault)?;
-            Err("the day cannot be read".into())
+            Err("a fault in the day's files".into())
         }
-    }
-}
-
-fn slice_of(bytes: &Option<Vec<u8>>) -> Option<&[u8]> {
-    match bytes {
-        Some(v) => Some(v.as_slice()),
-        None => None,
     }
 }
 
 fn main(rt: LibcRuntime) -> Result<(), AnyError> {
     let mut args = env::args(&rt)?;
     let _program = args.next();
-    match args.next() {
-        None => answer(&rt, "."),
-        Some(word) => {
-            if word.as_str() == "--help" {
-                println!(rt, "{HELP}")?;
-                return Ok(());
-            }
-            answer(&rt, word.as_str())
-        }
+    let Some(word) = args.next() else {
+        return answer(&rt, ".");
+    };
+    if args.next().is_some() {
+        eprintln!(
+            rt,
+            "daysheet takes one folder at the most; daysheet --help says more"
+        )?;
+        return Err("too many arguments".into());
     }
+    if word.as_str() == "--help" {
+        println!(rt, "{HELP}")?;
+        return Ok(());
+    }
+    answer(&rt, word.as_str())
 }
