@@ -1,0 +1,9 @@
+pub mod Decides
+pub mod Keeps
+pub mod Lawful
+pub mod Moments
+pub mod Narrows
+pub mod Options
+pub mod Ranges
+pub mod Stands
+pub mod Sums

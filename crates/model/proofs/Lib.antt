@@ -1,1 +1,3 @@
 pub mod Gathers
+pub mod Narrowings
+pub mod Pairs

@@ -1,6 +1,9 @@
 pub mod Bytes
+pub mod Closed
 pub mod Labels
+pub mod Limits
 pub mod Meanings
+pub mod Narrowings
 pub mod Plans
 pub mod Refusals
 pub mod Uses
