@@ -37,6 +37,10 @@ abbrev pub In : {X : Type 0} → X → List X → Type 0
 In x [] = ⊥
 In x (y ∷ ys) = (y ≡ x) ⊎ In x ys
 
+-- the uses of a rule of one place, by number
+abbrev pub single : (ℕ → Option Use) → Uses
+single f q = cond (eqb q 0) f (λ k. None)
+
 -- the uses of two rules as one, where the first has n places
 abbrev pub joined : ℕ → Uses → Uses → Uses
 joined n a b q = cond (ltb q n) (a q) (b (q - n))

@@ -3,3 +3,4 @@ pub mod limit;
 pub mod pair;
 pub mod pairs;
 pub mod rule;
+pub mod single;

@@ -1,0 +1,4 @@
+pub mod Puts
+pub mod Rising
+pub mod Looks
+pub mod Gathered
