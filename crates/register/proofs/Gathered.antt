@@ -1,10 +1,10 @@
 -- The records of a rising list are those that its lookup gathers, so the lookup determines the list.
 use mathlib.Core.List.{List, [], _∷_, _++_, map, map-append}
 use mathlib.Core.Logic.{⊎-elim}
-use mathlib.Core.Path.{_≡_, refl, sym, ap, subst, _∙_}
+use mathlib.Core.Path.{_≡_, refl, sym, ap, _∙_}
 use Prim.Native.Nat.{ℕ, zero, suc, _+_, _<_, _≤_}
 use native.Mathlib.Omega.{arith}
-use lib.ListN.{length, getD}
+use lib.ListN.{length}
 use Rattle.model.specs.Uses.{gather, standing}
 use Rattle.register.proofs.Looks.{lookup-absent}
 use Rattle.register.proofs.Puts.{put-here, put-other}

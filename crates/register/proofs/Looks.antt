@@ -1,8 +1,8 @@
 -- How the lookup follows an insertion and a removal.
 use mathlib.Core.Bool.{true}
-use mathlib.Core.List.{List, [], _∷_, _++_, map, map-append}
+use mathlib.Core.List.{List, [], _∷_, _++_, map-append}
 use mathlib.Core.Path.{_≡_, refl, sym, ap, subst, _∙_}
-use Prim.Native.Nat.{ℕ, suc, _+_, _<_, _≤_}
+use Prim.Native.Nat.{ℕ, suc, _<_}
 use native.Mathlib.Numerals.{add-one}
 use native.Mathlib.Omega.{arith}
 use lib.Dec.{eqb}
@@ -16,7 +16,6 @@ use Rattle.std.proofs.shelf.Lists.{getD-map, length-map, take-map, drop-map, ta
 use Rattle.std.proofs.shelf.Tests.{ne-eqb}
 use Rattle.std.specs.Options.{isSome}
 use Rattle.std.specs.Orderings.{When}
-use Rattle.std.specs.declared.option.Option.{Option}
 use Rattle.std.specs.declared.option.Option.the-variants.{Some, None}
 use Rattle.std.specs.shelf.Lists.{All, inserted, removed}
 
@@ -37,7 +36,7 @@ module _ {T : Type 0} where
   pub number-at : (xs : List (Numbered T)) (i : ℕ) (x : Numbered T) → i < length xs → x ≡ getD xs i x → getD (numbers xs) i 0 ≡ x .number
   number-at xs i x h e = getD-map numberOf xs i x 0 h ∙ ap numberOf (sym e)
 
-  -- nothing stands in the empty list alone
+  -- nothing stands exactly if the list is empty
   pub lookup-empty : (xs : List (Numbered T)) → When (eqb (length xs) 0) (lookup xs ≡ nothing) (lookup xs ≡ nothing → ⊥)
   lookup-empty [] = refl
   lookup-empty (x ∷ xs) =

@@ -1,16 +1,15 @@
 -- A view with one entry lowered.
-use mathlib.Core.Bool.{Bool, true, false, cond, _&&_}
-use mathlib.Core.Logic.{_⊎_, inl, inr}
+use mathlib.Core.Bool.{_&&_}
+use mathlib.Core.Logic.{inl, inr}
 use mathlib.Core.Path.{_≡_, refl}
 use Prim.Native.Nat.{ℕ, _<_, _≤_}
 use native.Mathlib.Omega.{arith}
 use lib.Dec.{eqb, ltb}
-use lib.IntN.{ℤ, pos, negsuc}
-use lib.Signed.{_≤ℤ_, _<ℤ_, ≤ℤ-refl}
+use lib.IntN.{ℤ}
+use lib.Signed.{_≤ℤ_, ≤ℤ-refl}
 use Rattle.std.specs.Numbers.{minZ}
 use Rattle.std.proofs.shelf.Signed.{ints, clamps}
 use Rattle.std.proofs.shelf.Tests.{cases-eq, cond-both, cond-true, cond-false, and-parts, eq-eqb, ne-eqb, lt-ltb, eqb-true, ltb-true, and-from, and-left, and-right}
-use Rattle.std.proofs.shelf.Ways.{tells}
 use Rattle.model.specs.Plans.{View, Tighter}
 use Rattle.tables.specs.Views.{lowered}
 use Rattle.tables.proofs.Orders.{same-view}

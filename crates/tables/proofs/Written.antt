@@ -10,9 +10,7 @@ use lib.IntN.{ℤ, pos}
 use lib.ListN.{length, getD, set}
 use Rattle.std.specs.Numbers.{minZ}
 use Rattle.std.proofs.shelf.Lists.{getD-set-same, getD-set-other}
-use Rattle.std.proofs.shelf.Tests.{cases-eq, cases-lt, and-parts, ltb-true}
-use Rattle.std.proofs.shelf.Ways.{tells}
-use Rattle.model.specs.Plans.{View}
+use Rattle.std.proofs.shelf.Tests.{cases-eq, and-parts, ltb-true}
 use Rattle.tables.specs.Views.{boundsView, evenView, lowered}
 use Rattle.tables.specs.declared.bounds.Bounds.{Bounds}
 use Rattle.tables.proofs.Orders.{same-view}

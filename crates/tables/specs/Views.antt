@@ -8,6 +8,7 @@ use Rattle.model.specs.Plans.{View}
 unfoldable pub use Rattle.tables.specs.Entries.{boundsView}
 use Rattle.tables.specs.declared.tables.Table.{Table}
 
+-- what a table holds
 abbrev pub tableView : Table → View
 tableView t = boundsView (t .bounds)
 

@@ -6,7 +6,12 @@ ghost use Rattle.tables.specs.Entries.{boundsView};
 use crate::bounds::Bounds;
 
 mod access;
+mod close;
+mod relax;
 mod start;
+
+// No entry of a table is lower.
+const LOWEST: i32 = -10_080;
 
 // The most minutes that each point may come after each other.
 #[derive(Clone, Copy)]

@@ -53,7 +53,9 @@ impl Bounds {
     pub(crate) fn entry(&self, i: usize, j: usize) -> i32
         requires row { ⌜ i < boundsView (now self) .points ⌝ }
         requires column { ⌜ j < boundsView (now self) .points ⌝ }
-        ensures { λ r. ⌜ r ≡ boundsView (now (self .entry)) .at i j ⌝ }
+        ensures value { λ r. ⌜ r ≡ boundsView (now (self .entry)) .at i j ⌝ }
+        ensures low { λ r. ⌜ negsuc 10080 ≤ℤ r ⌝ }
+        ensures high { λ r. ⌜ r ≤ℤ pos 10080 ⌝ }
     {
         self.entries[i * 64 + j]
     }

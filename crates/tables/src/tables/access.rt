@@ -3,14 +3,23 @@ ghost use mathlib.Core.Bool.{cond};
 ghost use mathlib.Core.Path.{_≡_};
 ghost use lib.IntN.{negsuc};
 ghost use lib.Signed.{leZ};
-ghost use Rattle.tables.specs.Views.{tableView, lowered};
+ghost use Rattle.tables.specs.Views.{boundsView, tableView, lowered};
+use super::LOWEST;
 use super::Table;
+use crate::bounds::Bounds;
 
 impl Table {
     pub fn points(&self) -> usize
         ensures { λ r. ⌜ r ≡ tableView (now (self .entry)) .points ⌝ }
     {
         self.bounds.points()
+    }
+
+    // The entries as bounds, to be lowered further.
+    pub fn to_bounds(&self) -> Bounds
+        ensures { λ r. ⌜ boundsView r ≡ tableView (now (self .entry)) ⌝ }
+    {
+        self.bounds
     }
 
     // The entry at (i, j), or 10,080 where there is no such pair.
@@ -24,7 +33,7 @@ impl Table {
     pub fn lower(&mut self, i: usize, j: usize, v: i32)
         ensures { λ _. ⌜ tableView (now (self .exit)) ≡ cond (leZ (negsuc 10079) v) (lowered (tableView (now (self .entry))) i j v) (tableView (now (self .entry))) ⌝ }
     {
-        if v >= -10_080 {
+        if v >= LOWEST {
             self.bounds.lower(i, j, v);
         }
     }

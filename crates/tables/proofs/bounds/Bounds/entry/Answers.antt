@@ -6,7 +6,7 @@ use lib.IntN.{pos}
 use lib.ListN.{length, getD}
 use mir.Val.{SFits}
 use mir.Syntax.{w32}
-use Rattle.std.proofs.shelf.Signed.{toZ-ofZ}
+use Rattle.std.proofs.shelf.Signed.{ints, toZ-ofZ}
 use Rattle.std.proofs.shelf.Lists.{getD-default}
 use Rattle.tables.specs.Views.{boundsView}
 use Rattle.tables.proofs.Entries.{at-inside}
@@ -36,6 +36,9 @@ returns c =
     let long : length xs ≡ 4096 = search needs in
     let inside : place < length xs = omega arith in
     let fit : SFits w32 (getD xs place (pos 0)) = search needs in
-    toZ-ofZ w32 (getD xs place (pos 0)) fit
-    ∙ getD-default xs place (pos 0) (pos 10080) inside
-    ∙ sym (at-inside (c .args .self .now) (c .args .i) (c .args .j) (c .pre .row) (c .pre .column))
+    let same = getD-default xs place (pos 0) (pos 10080) inside in
+    record {
+      value = toZ-ofZ w32 (getD xs place (pos 0)) fit ∙ same ∙ sym (at-inside (c .args .self .now) (c .args .i) (c .args .j) (c .pre .row) (c .pre .column));
+      low = omega (arith, ints, c .args .self .now .low place);
+      high = omega (arith, ints, c .args .self .now .high place);
+    }

@@ -4,7 +4,7 @@ use Prim.Native.Nat.{_*_, _+_, _<_}
 use mathlib.Core.Path.{_≡_, refl, sym}
 use lib.IntN.{ℤ, pos, negsuc}
 use lib.ListN.{length}
-use lib.Signed.{_≤ℤ_, _<ℤ_}
+use lib.Signed.{_≤ℤ_}
 use mir.Val.{toZ, ofZ}
 use mir.Syntax.{w32}
 use Rattle.std.specs.Numbers.{maxZ, minZ}
@@ -25,12 +25,11 @@ ghost-self c =
     let b = c .args .self .now in
     let i = c .args .i in
     let j = c .args .j in
-    let v : ℤ = toZ w32 (ofZ w32 (c .max .result)) in
-    let place = i * 64 + j in (
+    let v : ℤ = toZ w32 (ofZ w32 (c .max .result)) in (
       b .few,
       (
-        set-by (b .entries) place v (pos 10080) (λ x. negsuc 10080 ≤ℤ x) (omega (arith, ints, clamps)) (b .low),
-        (set-by (b .entries) place v (pos 10080) (λ x. x ≤ℤ pos 10080) (omega (arith, ints, clamps, at-high b i j)) (b .high), tt),
+        set-by (b .entries) _ v (pos 10080) (λ x. negsuc 10080 ≤ℤ x) (omega (arith, ints, clamps)) (b .low),
+        (set-by (b .entries) _ v (pos 10080) (λ x. x ≤ℤ pos 10080) (omega (arith, ints, clamps, at-high b i j)) (b .high), tt),
       ),
     )
 

@@ -1,0 +1,4 @@
+pub mod Alike
+pub mod Obeying
+pub mod Steps
+pub mod Views

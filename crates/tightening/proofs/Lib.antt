@@ -1,0 +1,3 @@
+mod Passes
+mod RoundSteps
+mod Ways
