@@ -1,3 +1,4 @@
 pub mod Gathers
 pub mod Narrowings
 pub mod Pairs
+mod Texts

@@ -1,7 +1,8 @@
 // A label from its text, and the text of a label.
+ghost use mathlib.Core.Bool.{true, false};
 ghost use mathlib.Core.Path.{_≡_};
 ghost use Rattle.model.specs.Bytes.{labelByte};
-ghost use Rattle.model.specs.Labels.{IsLabel, textOf};
+ghost use Rattle.model.specs.Labels.{isLabel, textOf};
 ghost use Rattle.model.specs.declared.refusals.Refusal.the-variants.{BadLabel};
 ghost use Rattle.std.specs.Results.{Cases};
 use super::Label;
@@ -16,7 +17,7 @@ fn is_label_byte(b: u8) -> bool
 impl Label {
     // The label of that text, or a refusal where the text is none.
     pub fn new(text: &[u8]) -> Result<Label, Refusal>
-        ensures { λ r. ⌜ Cases r (λ l. IsLabel (now (text .entry)) × (textOf l ≡ now (text .entry))) (λ e. (e ≡ BadLabel) × (IsLabel (now (text .entry)) → ⊥)) ⌝ }
+        ensures { λ r. ⌜ Cases r (λ l. (isLabel (now (text .entry)) ≡ true) × (textOf l ≡ now (text .entry))) (λ e. (e ≡ BadLabel) × (isLabel (now (text .entry)) ≡ false)) ⌝ }
     {
         let len = text.len();
         if len == 0 || len > 8 {
