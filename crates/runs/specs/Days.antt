@@ -21,8 +21,8 @@ use Rattle.model.specs.declared.refusals.Refusal.the-variants.{BadLabel, LabelT
 use Rattle.model.specs.declared.slips.Distance.{Distance}
 use Rattle.model.specs.declared.slips.Use.{Use}
 use Rattle.register.specs.Lookups.{putAt}
-use Rattle.sheet.specs.declared.calls.Call.{Call}
-use Rattle.sheet.specs.declared.calls.Call.the-variants.{Name, PostDistance, PostUse, WithdrawDistance, WithdrawUse, Tighten, LookBound, LookLevels}
+use Rattle.runs.specs.declared.calls.Call.{Call}
+use Rattle.runs.specs.declared.calls.Call.the-variants.{Name, PostDistance, PostUse, WithdrawDistance, WithdrawUse, Tighten, LookBound, LookLevels}
 
 -- a day, over limits with settings of the type S
 pub record Day (S : Type 0) : Type 0 where

@@ -8,9 +8,9 @@ use Rattle.std.specs.Options.{isSome}
 use Rattle.std.specs.declared.option.Option.the-variants.{None}
 use Rattle.model.specs.declared.slips.Distance.{Distance}
 use Rattle.model.specs.declared.slips.Use.{Use}
-use Rattle.sheet.specs.Days.{Day, Takes, refusal, after}
-use Rattle.sheet.specs.declared.calls.Call.{Call}
-use Rattle.sheet.specs.declared.calls.Call.the-variants.{Name, PostDistance, PostUse, WithdrawDistance, WithdrawUse, Tighten, LookBound, LookLevels}
+use Rattle.runs.specs.Days.{Day, Takes, refusal, after}
+use Rattle.runs.specs.declared.calls.Call.{Call}
+use Rattle.runs.specs.declared.calls.Call.the-variants.{Name, PostDistance, PostUse, WithdrawDistance, WithdrawUse, Tighten, LookBound, LookLevels}
 
 -- the calls that change a sheet where they are accepted
 abbrev pub changes : Call → Bool

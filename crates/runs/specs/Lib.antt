@@ -1,0 +1,4 @@
+pub mod Days
+pub mod Promise
+pub mod Runs
+pub mod Shown
