@@ -1,0 +1,4 @@
+pub mod Keeping
+pub mod Likeness
+pub mod Promised
+pub mod Words

@@ -1,0 +1,3 @@
+mod CallEnds
+mod LabelLists
+mod Postings
