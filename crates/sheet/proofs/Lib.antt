@@ -1,3 +1,4 @@
 mod CallEnds
 mod LabelLists
+mod Looks
 mod Postings

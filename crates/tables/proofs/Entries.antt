@@ -36,6 +36,10 @@ at-outside b i j (inl h) = grind (arith, tells)
 at-outside b i j (inr h) = grind (arith, tells)
 
 -- no bound is below -10,081, or above 10,080
+pub points-few : (b : Bounds) → boundsView b .points ≤ 64
+unfolding boundsView
+points-few b = b .few
+
 pub at-low : (b : Bounds) (i j : ℕ) → negsuc 10080 ≤ℤ boundsView b .at i j
 unfolding boundsView
 at-low b i j =
