@@ -1,22 +1,26 @@
--- A limit of one place takes a use as its register does.
-use mathlib.Core.Bool.{Bool, true, false, cond}
-use mathlib.Core.Path.{_≡_, refl, sym, ap, fun-ext, _∙_}
-use Prim.Native.Nat.{ℕ, _<_, _≤_}
+-- A limit of one place takes and holds uses as its register does.
+use mathlib.Core.Bool.{Bool, true, false, cond, not}
+use mathlib.Core.List.{List, [], _∷_}
+use mathlib.Core.Path.{_≡_, refl, ap, fun-ext, _∙_}
+use Prim.Native.Nat.{ℕ, zero, suc, _<_, _≤_}
 use native.Mathlib.Omega.{arith}
 use lib.Dec.{eqb}
 use lib.ListN.{length}
-use Rattle.std.proofs.shelf.Tests.{lt-ltb, le-ltb}
+use Rattle.std.proofs.shelf.Tests.{both-ways, not-true, not-from-false, ne-eqb, lt-ltb, le-ltb}
 use Rattle.std.proofs.shelf.Ways.{tells}
 use Rattle.std.specs.Options.{isSome}
+use Rattle.std.specs.Orderings.{Decides}
 use Rattle.std.specs.declared.option.Option.{Option}
 use Rattle.std.specs.declared.option.Option.the-variants.{Some, None}
 use Rattle.model.specs.Limits.{notTaken, atFirst}
-use Rattle.model.specs.Uses.{Uses, single, put, standing}
+use Rattle.model.specs.Uses.{single, put, gather, standing}
 use Rattle.model.specs.declared.refusals.Refusal.{Refusal}
 use Rattle.model.specs.declared.slips.Use.{Use}
 use Rattle.register.proofs.Gathered.{standing-length}
-use Rattle.register.specs.Lookups.{putAt}
-use Rattle.register.specs.Standing.{stands, Accepts, Refuses}
+use Rattle.register.proofs.Puts.{put-here}
+use Rattle.register.specs.Lookups.{lookup, putAt}
+use Rattle.register.specs.Standing.{itemsOf, stands, Accepts, Refuses}
+use Rattle.register.specs.declared.records.Numbered.{Numbered}
 use Rattle.register.specs.declared.registers.NoInsert.{NoInsert}
 use Rattle.register.specs.declared.registers.NoInsert.the-variants.{OutOfRange, Stands, Full}
 use Rattle.register.specs.declared.registers.Register.{Register}
@@ -49,3 +53,25 @@ module _ {most : ℕ} (r : Register Use most) (place number : ℕ) (u : Use) (fi
       let free = w .1 in
       let t = le-ltb (length (standing (stands r))) most (omega (arith, standing-length r, w .2)) in
       rw z (grind (arith, tells))
+
+-- nothing is gathered from nothing
+gather-nothing : (k n : ℕ) → gather {X = Use} k n (λ j. None) ≡ []
+unfolding gather
+gather-nothing k zero = refl
+gather-nothing k (suc n) = gather-nothing (suc k) n
+
+-- at place 0 stand at most the register's most uses, and elsewhere none
+pub few-single : {most : ℕ} (r : Register Use most) (place : ℕ) → length (standing (single (stands r) place)) ≤ atFirst most 0 place
+few-single {most} r place = by (eqb place 0)
+  where
+    by : (here : Bool) → length (standing (cond here (stands r) (λ k. None))) ≤ cond here most 0
+    by true = omega (arith, standing-length r, r .few)
+    by false = omega (arith, ap length (gather-nothing 1 9999))
+
+-- any use stands where the register is not empty
+pub any-single : {most : ℕ} (r : Register Use most) (empty : Bool) → empty ≡ eqb (length (itemsOf r)) 0 → Decides (not empty) ((place : ℕ) × (number : ℕ) × (isSome (single (stands r) place number) ≡ true))
+any-single r = by (itemsOf r)
+  where
+    by : (xs : List (Numbered Use)) (empty : Bool) → empty ≡ eqb (length xs) 0 → Decides (not empty) ((place : ℕ) × (number : ℕ) × (isSome (single (lookup xs) place number) ≡ true))
+    by [] empty e = (λ h. absurd (both-ways empty (not-true empty h) e), λ w. let h = w .2 in grind (arith, tells))
+    by (x ∷ xs) empty e = (λ h. (0, x .number, ap isSome (put-here (lookup xs) (x .number) (Some (x .what)))), λ w. not-from-false empty (e ∙ ne-eqb (length (x ∷ xs)) 0 (λ z. omega arith)))

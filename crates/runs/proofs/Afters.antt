@@ -14,18 +14,13 @@ use Rattle.model.specs.Closed.{SlipsHeld}
 use Rattle.model.specs.Uses.{Uses}
 use Rattle.model.specs.declared.refusals.Refusal.{Refusal}
 use Rattle.promise_laws.specs.Held.{UsesHeld}
+use Rattle.runs.specs.Held.{Held}
 use Rattle.runs.specs.Days.{Day, Takes, points, ruled, refusal, changed, step, after}
 use Rattle.runs.specs.declared.calls.Call.{Call}
 use Rattle.runs.specs.declared.calls.Call.the-variants.{Tighten}
 
 pub some-none : {X : Type 0} {x : X} {o : Option X} → o ≡ None → o ≡ Some x → ⊥
 some-none p q = let z : _≡_ {A = ℕ} 0 1 = cc in omega arith
-
--- each standing slip and use names points of the day, and there is a point
-pub record Held {S : Type 0} (d : Day S) : Type 0 where
-  pub slips : SlipsHeld (points d) (d .slips)
-  pub uses : UsesHeld (points d) (d .uses)
-  pub some : 0 < points d
 
 -- so on a newly ruled day on which no use stands
 pub held-ruled : {S : Type 0} (h : ℕ) (s : S) (us : Uses) → ((place k : ℕ) → us place k ≡ None) → Held (ruled h s us)

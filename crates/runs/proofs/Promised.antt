@@ -6,10 +6,11 @@ use native.Mathlib.Omega.{arith}
 use Rattle.std.specs.declared.option.Option.the-variants.{None}
 use Rattle.model.specs.Meanings.{Lawful}
 use Rattle.model.specs.Uses.{Uses}
-use Rattle.runs.proofs.Afters.{Held, held-ruled, held-after, horizon-kept, settings-kept}
+use Rattle.runs.proofs.Afters.{held-ruled, held-after, horizon-kept, settings-kept}
 use Rattle.runs.proofs.Keeping.{kept}
 use Rattle.runs.proofs.Standing.{slips-told, uses-told}
 use Rattle.runs.specs.Days.{Day, Takes, ruled, after}
+use Rattle.runs.specs.Held.{Held}
 use Rattle.runs.specs.Promise.{Promise}
 use Rattle.runs.specs.Runs.{Settled}
 use Rattle.runs.specs.Shown.{Shown, Means, Shows}

@@ -1,4 +1,5 @@
 mod CallEnds
 mod LabelLists
 mod Looks
+mod Plays
 mod Postings

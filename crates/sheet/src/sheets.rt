@@ -12,6 +12,7 @@ use tables::tables::Table;
 
 mod looking;
 mod naming;
+mod playing;
 mod posting;
 mod ruling;
 mod tightening;

@@ -2,9 +2,8 @@
 ghost use mathlib.Core.Bool.{true, false};
 ghost use mathlib.Core.List.{map};
 ghost use mathlib.Core.Path.{_≡_};
-ghost use Rattle.std.specs.Of.Vec.{vec-items, vec-len};
 ghost use Rattle.model.specs.Labels.{textOf};
-ghost use Rattle.runs.specs.Days.{inUse, Takes};
+ghost use Rattle.runs.specs.Days.{inUse, points};
 ghost use Rattle.runs.specs.declared.calls.Call.the-variants.{Name};
 ghost use Rattle.sheet.specs.Sheets.{dayOf, shownOf, Changed};
 use super::MOST_POINTS;
@@ -30,7 +29,7 @@ fn in_use(labels: &[Label], text: &[u8]) -> bool
 impl<L: Limit> Sheet<L> {
     // Names the next point, and tells its number. Refused: a text that is no label, one that is in use, a 65th point.
     pub fn name(&mut self, text: &[u8]) -> Result<usize, Refusal>
-        ensures { λ r. ⌜ Changed (record { width = L·Rule .width; most = L·Limit .most; form = L·Limit .form }) (dayOf (L·Rule .settings) (L·Rule .uses) (now (self .entry))) (shownOf (now (self .entry))) (Name (text .entry)) (vec-len (now (self .entry) .labels)) r (dayOf (L·Rule .settings) (L·Rule .uses) (now (self .exit))) (shownOf (now (self .exit))) ⌝ }
+        ensures { λ r. ⌜ Changed (record { width = L·Rule .width; most = L·Limit .most; form = L·Limit .form }) (dayOf (L·Rule .settings) (L·Rule .uses) (now (self .entry))) (shownOf (now (self .entry))) (Name (text .entry)) (points (dayOf (L·Rule .settings) (L·Rule .uses) (now (self .entry)))) r (dayOf (L·Rule .settings) (L·Rule .uses) (now (self .exit))) (shownOf (now (self .exit))) ⌝ }
     {
         let label = Label::new(text)?;
         if in_use(self.labels.as_slice(), text) {

@@ -9,10 +9,10 @@ use Rattle.std.proofs.shelf.Tests.{cond-true}
 use Rattle.std.specs.Of.Vec.{vec-items, vec-len}
 use Rattle.model.specs.Labels.{textOf}
 use Rattle.model.specs.declared.refusals.Refusal.the-variants.{PointsFull}
-use Rattle.runs.specs.Days.{Takes, inUse}
+use Rattle.runs.specs.Days.{Takes, inUse, points}
 use Rattle.runs.specs.declared.calls.Call.the-variants.{Name}
 use Rattle.sheet.specs.Sheets.{dayOf, shownOf}
-use Rattle.sheet.proofs.CallEnds.{refused, accepted}
+use Rattle.sheet.proofs.CallEnds.{refused, accepted, points-of}
 use Rattle.sheet.proofs.LabelLists.{named-full, named-free}
 use Rattle.sheet.proofs.sheets.Sheet.name.Needs as need
 
@@ -22,7 +22,7 @@ returns-then-point-ge-MOST-POINTS g c =
     let d = dayOf (g .L·Rule .settings) (g .L·Rule .uses) x in
     let takes : Takes (g .L·Settings .Denot) = record { width = g .L·Rule .width; most = g .L·Limit .most; form = g .L·Limit .form } in
     let free : inUse (c .args .text .now) (map textOf (vec-items (x .labels))) ≡ false = sym (c .in-use .ensures ∙ ap (λ ls. inUse (c .args .text .now) (map textOf ls)) (c .as-slice .ensures .value)) ∙ c .if-in-use .left in
-    refused takes d (shownOf x) (Name (c .args .text)) (vec-len (x .labels)) PointsFull
+    refused takes d (shownOf x) (Name (c .args .text)) (points d) PointsFull
     (named-full takes d (c .args .text .now) (c .in-Continue-label .ensures tt .0) free (omega (arith, length-map (vec-items (x .labels)) textOf, x .labels .ok .0)))
 
 pub ghost-self : need.ghost-self
@@ -42,7 +42,7 @@ returns g c =
     let ok = c .push .ensures .succeeds (omega arith) in
     let items = c .push .ensures .items ∙ cond-true _ _ _ ok in
     let labels = ap (map textOf) items ∙ (map-append textOf (vec-items (x .labels)) (c .in-Continue-label .label ∷ []) ∙ ap (λ t. map textOf (vec-items (x .labels)) ++ t ∷ []) (c .in-Continue-label .ensures tt .1)) in
-    accepted takes d (shownOf x) (Name (c .args .text)) (vec-len (x .labels)) (c .len-point .result) _
+    accepted takes d (shownOf x) (Name (c .args .text)) (points d) (c .len-point .result) _
     (named-free takes d (c .args .text .now) (c .in-Continue-label .ensures tt .0) free (omega (arith, length-map (vec-items (x .labels)) textOf, x .labels .ok .0)))
     (ap (λ ls. record { horizon = d .horizon; labels = ls; slips = d .slips; settings = d .settings; uses = d .uses }) labels)
-    (c .len-point .ensures)
+    (c .len-point .ensures ∙ points-of (x .labels))
