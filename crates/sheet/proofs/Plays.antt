@@ -96,7 +96,9 @@ module _ {S : Type 0} (takes : Takes S) (means : Means S) where
       where
         held-now : UsesHeld (points now-day) (now-day .uses)
         held-now = subst (λ x. UsesHeld (points x) (x .uses)) (sym reached) (held-after takes d (take i calls) held .uses)
+
         tightens : c ≡ Tighten → Shows means (step takes now-day c) then
         tightens t = subst (λ x. ShowsThen takes means now-day shown then x → Shows means (step takes now-day x) then) (sym t) (λ e. e held-now) (applied .shows)
+
         quiet : (changes (getD calls i Tighten) ≡ true → refusal takes (after takes d (take i calls)) (getD calls i Tighten) ≡ None → ⊥) → changes c ≡ true → refusal takes now-day c ≡ None → ⊥
         quiet h = subst (λ x. changes x ≡ true → refusal takes now-day x ≡ None → ⊥) (sym is) (subst (λ x. changes (getD calls i Tighten) ≡ true → refusal takes x (getD calls i Tighten) ≡ None → ⊥) (sym reached) h)

@@ -5,6 +5,7 @@ ghost use Rattle.std.specs.Of.Vec.{vec-len, vec-cap};
 ghost use Rattle.std.specs.declared.option.Option.the-variants.{Some};
 ghost use Rattle.model.specs.declared.slips.Distance.{Distance};
 ghost use Rattle.register.specs.Standing.{stands};
+pub use self::ruling::NotRuled;
 use model::labels::Label;
 use model::slips::Distance;
 use register::registers::Register;

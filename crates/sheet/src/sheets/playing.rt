@@ -21,7 +21,11 @@ impl<L: Limit> Sheet<L> {
         match call {
             Call::Name(text) => Reply::Named(self.name(text)),
             Call::PostDistance(number, slip) => Reply::Changed(self.post_distance(number, slip)),
-            Call::PostUse(place, number, what) => Reply::Changed(self.post_use(place, number, what)),
+            Call::PostUse(place, number, what) => Reply::Changed(self.post_use(
+                place,
+                number,
+                what,
+            )),
             Call::WithdrawDistance(number) => Reply::Changed(self.withdraw_distance(number)),
             Call::WithdrawUse(place, number) => Reply::Changed(self.withdraw_use(place, number)),
             Call::Tighten => Reply::Tightened(self.tighten()),
@@ -47,7 +51,11 @@ impl<L: Limit> Sheet<L> {
 }
 
 // The first refusal: the one that there is already, or else this one, at place i.
-fn earlier(first: Option<(usize, Refusal)>, i: usize, refused: Option<Refusal>) -> Option<(usize, Refusal)>
+fn earlier(
+    first: Option<(usize, Refusal)>,
+    i: usize,
+    refused: Option<Refusal>,
+) -> Option<(usize, Refusal)>
     ensures { λ r. ⌜ r ≡ earlierOf first i refused ⌝ }
 {
     match (first, refused) {

@@ -61,6 +61,12 @@ impl<L: Limit> Sheet<L> {
             return Err(NotRuled { limits, refusal });
         };
         let shown = Shown::Nothing;
-        Ok(Sheet { limits, horizon, labels, slips, shown })
+        Ok(Sheet {
+            limits,
+            horizon,
+            labels,
+            slips,
+            shown,
+        })
     }
 }

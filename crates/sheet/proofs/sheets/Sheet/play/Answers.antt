@@ -24,10 +24,11 @@ loop-i-again g c =
     let is = getD-default calls i _ Tighten (c .loop-i-test .taken) in
     let shown = shownOf (c .loop-i .self) in
     let then = shownOf (c .apply .last .self) in
-    let told = c .earlier-first .ensures ∙ ap (earlierOf (c .loop-i .first) i) (c .refusal-refused .ensures) in
-    ( day-more takes means start calls i (c .loop-i-test .taken) _ is now-day next (c .loop-i .inv .0) shown then (c .apply .result) (c .apply .ensures)
-    , subst (FirstBefore takes start calls (i + 1)) (sym told) (first-more takes means start calls i (c .loop-i-test .taken) _ is now-day next (c .loop-i .inv .0) shown then (c .apply .result) (c .apply .ensures) (c .loop-i .first) (c .loop-i .inv .1))
-    , λ held. shows-more takes means start calls i (c .loop-i-test .taken) _ is now-day next (c .loop-i .inv .0) shown then (c .apply .result) (c .apply .ensures) held (c .loop-i .inv .2 held) )
+    let told = c .earlier-first .ensures ∙ ap (earlierOf (c .loop-i .first) i) (c .refusal-refused .ensures) in (
+      day-more takes means start calls i (c .loop-i-test .taken) _ is now-day next (c .loop-i .inv .0) shown then (c .apply .result) (c .apply .ensures),
+      subst (FirstBefore takes start calls (i + 1)) (sym told) (first-more takes means start calls i (c .loop-i-test .taken) _ is now-day next (c .loop-i .inv .0) shown then (c .apply .result) (c .apply .ensures) (c .loop-i .first) (c .loop-i .inv .1)),
+      λ held. shows-more takes means start calls i (c .loop-i-test .taken) _ is now-day next (c .loop-i .inv .0) shown then (c .apply .result) (c .apply .ensures) held (c .loop-i .inv .2 held),
+    )
 
 pub returns : need.returns
 returns g c =
@@ -39,5 +40,5 @@ returns g c =
     record {
       day = c .loop-i .inv .0 ∙ ap (after takes start) all;
       refused = subst (λ n. FirstBefore takes start calls n (c .loop-i .first)) end (c .loop-i .inv .1);
-      shows = λ held settled. c .loop-i .inv .2 held (subst (Settled takes start) (sym all) settled)
+      shows = λ held settled. c .loop-i .inv .2 held (subst (Settled takes start) (sym all) settled);
     }
