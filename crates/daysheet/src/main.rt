@@ -1,4 +1,6 @@
 // Reads the day's two files, and answers whether they can be read.
+use crate::example::print_sheet;
+use crate::example::trailer_sheet;
 use dayfile::faults::DayFile;
 use dayfile::faults::Fault;
 use dayfile::files::MOST_BYTES;
@@ -10,12 +12,15 @@ use std::io;
 use std::io::Read;
 use std::path::Path;
 
+mod example;
+
 const HELP: &str = "daysheet [FOLDER]
 
 Reads bridge.day and hall.day of FOLDER, or of the folder that it runs in, and
 answers whether both are there, at most 65,536 bytes long and ended by a line
-feed. A fault is printed as the table `file line refusal` (1 is bridge.day, 2 is
-hall.day), and ends the program with status 1.";
+feed; then plans the trailer's day, which is built in. A fault is printed as the
+table `file line refusal` (1 is bridge.day, 2 is hall.day), and ends the program
+with status 1.";
 
 // The bytes of a file, one more than is allowed at the most, or None where it cannot be read.
 fn bytes_of(rt: &LibcRuntime, folder: &str, name: &str) -> Option<Vec<u8>> {
@@ -60,14 +65,26 @@ fn slice_of(bytes: &Option<Vec<u8>>) -> Option<&[u8]> {
     }
 }
 
+// Plans the day that is built in.
+fn print_example(rt: &LibcRuntime) -> Result<(), AnyError> {
+    println!(rt, "the trailer's day, which is built in:\n")?;
+    match trailer_sheet(rt.alloc()) {
+        Ok(mut sheet) => {
+            print_sheet(rt, &mut sheet)?;
+            Ok(())
+        }
+        Err(_) => Err("no memory for the sheet".into()),
+    }
+}
+
 // Answers for the day files of one folder.
 fn answer(rt: &LibcRuntime, folder: &str) -> Result<(), AnyError> {
     let bridge = bytes_of(rt, folder, "bridge.day");
     let hall = bytes_of(rt, folder, "hall.day");
     match check_files(slice_of(&bridge), slice_of(&hall)) {
         Ok(()) => {
-            println!(rt, "bridge.day and hall.day can be read")?;
-            Ok(())
+            println!(rt, "bridge.day and hall.day can be read\n")?;
+            print_example(rt)
         }
         Err(fault) => {
             print_fault(rt, fault)?;

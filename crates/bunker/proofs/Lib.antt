@@ -1,0 +1,6 @@
+mod Kept
+mod Levels
+mod Rooms
+mod Searches
+mod Steps
+mod Turns

@@ -1,0 +1,5 @@
+pub mod Choices
+pub mod Following
+pub mod Ranges
+pub mod Records
+pub mod Rooms

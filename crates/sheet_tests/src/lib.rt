@@ -1,0 +1,3 @@
+// Tests of the sheet over two bunkers and a weighbridge, with numbers worked out by hand.
+#[cfg(test)]
+mod day;
