@@ -2,14 +2,15 @@
 use mathlib.Core.List.{List, [], _∷_, _++_, map}
 use mathlib.Core.Logic.{_⊎_, inl, inr, ⊎-elim}
 use mathlib.Core.Path.{_≡_, refl, sym, ap, subst, _∙_}
-use Prim.Native.Nat.{ℕ, zero, suc, _+_, _<_, _≤_}
+use Prim.Native.Nat.{ℕ, _+_, _<_, _≤_}
 use native.Mathlib.Omega.{arith}
 use lib.IntN.{pos}
 use lib.ListN.{length, getD, take}
 use Rattle.bunker.specs.Ranges.{Light}
 use Rattle.bunker.specs.Records.{usesOf}
 use Rattle.bunker.specs.declared.bunkers.Bunker.{Bunker}
-use Rattle.model.proofs.Gathers.{in-either, under-number}
+use Rattle.model.proofs.Gathers.{under-number}
+use Rattle.model.proofs.Members.{in-either, in-front, in-last, in-place, in-taken}
 use Rattle.model.specs.Uses.{In}
 use Rattle.model.specs.declared.slips.Use.{Use}
 use Rattle.register.proofs.Gathered.{standing-items}
@@ -19,26 +20,6 @@ use Rattle.register.specs.declared.records.Numbered.{Numbered}
 use Rattle.std.proofs.shelf.Lists.{take-more, take-all, getD-map, length-map, length-take}
 
 -- ---- a list of which one more is passed
-
-in-place : {X : Type 0} (xs : List X) (i : ℕ) (d : X) → i < length xs → In (getD xs i d) xs
-in-place [] i d h = absurd (omega arith)
-in-place (x ∷ xs) zero d h = inl refl
-in-place (x ∷ xs) (suc i) d h = inr (in-place xs i d (omega arith))
-
-in-front : {X : Type 0} (x : X) (i : ℕ) (xs : List X) → In x (take i xs) → In x xs
-in-front x zero xs h = absurd h
-in-front x (suc i) [] h = absurd h
-in-front x (suc i) (y ∷ xs) (inl e) = inl e
-in-front x (suc i) (y ∷ xs) (inr h) = inr (in-front x i xs h)
-
-in-left : {X : Type 0} (x : X) (xs ys : List X) → In x xs → In x (xs ++ ys)
-in-left x [] ys h = absurd h
-in-left x (y ∷ xs) ys (inl e) = inl e
-in-left x (y ∷ xs) ys (inr h) = inr (in-left x xs ys h)
-
-in-right : {X : Type 0} (x : X) (xs ys : List X) → In x ys → In x (xs ++ ys)
-in-right x [] ys h = h
-in-right x (y ∷ xs) ys h = inr (in-right x xs ys h)
 
 -- what a program reads where there is nothing
 abbrev pub blank : Numbered Use
@@ -54,10 +35,10 @@ module _ (us : List Use) (i : ℕ) (u : Use) (t : Turn us i u) where
   in-next v h = ⊎-elim inl (⊎-elim inr (λ z. absurd z)) (in-either v (take i us) (u ∷ []) (subst (λ vs. In v vs) (t .more) h))
 
   pub in-still : (v : Use) → In v (take i us) → In v (take (i + 1) us)
-  in-still v h = subst (λ vs. In v vs) (sym (t .more)) (in-left v (take i us) (u ∷ []) h)
+  in-still v h = subst (λ vs. In v vs) (sym (t .more)) (in-front v (take i us) (u ∷ []) h)
 
   pub in-now : In u (take (i + 1) us)
-  in-now = subst (λ vs. In u vs) (sym (t .more)) (in-right u (take i us) (u ∷ []) (inl refl))
+  in-now = subst (λ vs. In u vs) (sym (t .more)) (in-last u (take i us))
 
   -- what holds of each use before holds of each use so far
   pub each-more : (P : Use → Type 0) → ((v : Use) → In v (take i us) → P v) → P u → (v : Use) → In v (take (i + 1) us) → P v
@@ -91,4 +72,4 @@ module _ (b : Bunker) where
       (b .low (w .0) u (w .1), b .high (w .0) u (w .1))
 
   pub light-front : (i : ℕ) (u : Use) → In u (take i (usesOf b)) → Light u
-  light-front i u h = light-use u (in-front u i (usesOf b) h)
+  light-front i u h = light-use u (in-taken u i (usesOf b) h)

@@ -9,6 +9,7 @@ use lib.IntN.{ℤ, pos, _+ℤ_, _-ℤ_}
 use lib.Signed.{_≤ℤ_}
 use Rattle.std.proofs.shelf.Signed.{ints, by-ltZ}
 use Rattle.std.proofs.shelf.Ways.{tells}
+use Rattle.model.proofs.Entries.{plan-entry}
 use Rattle.model.specs.Plans.{Plan, tableOf}
 use Rattle.model.specs.Uses.{In}
 use Rattle.model.specs.declared.moments.Moment.the-variants.{Point}
@@ -17,9 +18,6 @@ use Rattle.bunker_laws.specs.declared.settings.Settings.{Settings}
 use Rattle.bunker_laws.specs.Bunkers.{delivery, Looked, high, low, highest, lowest, Refuses, Vouches}
 use Rattle.bunker_laws.proofs.Options.{Has}
 use Rattle.bunker_laws.proofs.Sums.{total-same}
-
-entry-of : (n : ℕ) (t : Plan) (i j : ℕ) → i < n → j < n → tableOf n t .at i j ≡ (pos (t j) -ℤ pos (t i))
-entry-of n t i j a b = grind (arith, tells)
 
 one-option : (n : ℕ) (t : Plan) (q : ℕ) (u : Use) → q < n → u .first < n → u .last < n → high (tableOf n t) (Point q) u ≡ low (tableOf n t) (Point q) u
 one-option n t q u qn a b = grind (arith, tells, ints)
@@ -43,8 +41,8 @@ module _ (s : Settings) (us : List Use) (n : ℕ) (t : Plan) (has : Has us (tabl
     order : (u : Use) → In u us → delivery u ≡ false → tableOf n t .at (u .last) (u .first) ≤ℤ pos 0
     order u i loan =
         let l = has u i in
-        let there = entry-of n t (u .first) (u .last) (l .0) (l .1) in
-        let back = entry-of n t (u .last) (u .first) (l .1) (l .0) in
+        let there = plan-entry n t (u .first) (u .last) (l .0) (l .1) in
+        let back = plan-entry n t (u .last) (u .first) (l .1) (l .0) in
         by-ltZ (tableOf n t .at (u .first) (u .last)) (pos 0) (λ h. absurd (fine (Refuses.reversed u i loan h))) (λ h. omega (arith, ints))
 
     pub plan-vouched : Vouches s us (tableOf n t)

@@ -1,20 +1,15 @@
 -- What stands among the records that are gathered by rising number.
 use mathlib.Core.List.{List, [], _∷_, _++_}
-use mathlib.Core.Logic.{_⊎_, inl, inr, ⊎-elim}
+use mathlib.Core.Logic.{inl, inr, ⊎-elim}
 use mathlib.Core.Path.{_≡_, refl}
 use Prim.Native.Nat.{ℕ, zero, suc, _<_}
 use Rattle.std.specs.Vec.{listOf}
 use Rattle.std.specs.declared.option.Option.{Option}
 use Rattle.std.specs.declared.option.Option.the-variants.{Some, None}
+use Rattle.model.proofs.Members.{in-either}
 use Rattle.model.specs.Plans.{View}
 use Rattle.model.specs.Uses.{Uses, In, gather, standing, Holds}
 use Rattle.model.specs.declared.slips.Use.{Use}
-
--- a record of two lists is one of the first or one of the second
-pub in-either : {X : Type 0} (x : X) (xs ys : List X) → In x (xs ++ ys) → In x xs ⊎ In x ys
-in-either x [] ys h = inr h
-in-either x (y ∷ xs) ys (inl e) = inl (inl e)
-in-either x (y ∷ xs) ys (inr h) = ⊎-elim (λ a. inl (inr a)) (λ b. inr b) (in-either x xs ys h)
 
 of-option : {X : Type 0} (x : X) (o : Option X) → In x (listOf o) → o ≡ Some x
 of-option x None h = absurd h

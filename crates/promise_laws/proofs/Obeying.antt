@@ -6,13 +6,14 @@ use lib.IntN.{pos, _+ℤ_, _-ℤ_, natAbs}
 use lib.Signed.{_≤ℤ_}
 use Rattle.std.proofs.shelf.Signed.{ints, by-ltZ}
 use Rattle.std.specs.declared.option.Option.the-variants.{Some}
+use Rattle.model.proofs.Entries.{plan-entry}
 use Rattle.model.specs.Closed.{Slips, SlipsHeld, Closed, NoneClosed, Tightened, Obeys, Loose}
 use Rattle.model.specs.Meanings.{Meaning, Lawful}
 use Rattle.model.specs.Plans.{Plan, PlanOf, View, Within, Meets, Sound, tableOf}
 use Rattle.model.specs.Uses.{Uses}
 use Rattle.model.specs.declared.slips.Distance.{Distance}
 use Rattle.promise_laws.specs.Held.{UsesHeld}
-use Rattle.promise_laws.proofs.Views.{plan-entry, plan-sound, plan-met, uses-in, views-same}
+use Rattle.promise_laws.proofs.Views.{plan-sound, plan-met, uses-in, views-same}
 
 -- a plan for a shorter day is one for the longest
 longest : (h n : ℕ) (t : Plan) → h ≤ 10080 → PlanOf n h t → PlanOf n 10080 t

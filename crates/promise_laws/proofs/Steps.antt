@@ -7,6 +7,7 @@ use lib.IntN.{ℤ, pos, negℤ}
 use lib.Signed.{_≤ℤ_, _<ℤ_}
 use Rattle.std.proofs.shelf.Signed.{ints}
 use Rattle.std.specs.declared.option.Option.the-variants.{Some}
+use Rattle.model.proofs.Entries.{sound-low}
 use Rattle.model.specs.Closed.{Slips, SlipsHeld, Closed, NoneClosed, Tightened}
 use Rattle.model.specs.Meanings.{Meaning, AsTight, Lawful}
 use Rattle.model.specs.Narrowings.{Narrowed}
@@ -15,7 +16,7 @@ use Rattle.model.specs.Uses.{Uses}
 use Rattle.model.specs.declared.slips.Distance.{Distance}
 use Rattle.promise_laws.specs.Held.{UsesHeld}
 use Rattle.promise_laws.specs.Steps.{Over, Fits}
-use Rattle.promise_laws.proofs.Views.{entry-low, uses-in}
+use Rattle.promise_laws.proofs.Views.{uses-in}
 
 -- a table below one that fits the day fits it too
 pub fits-below : (h n : ℕ) (slips : Slips) (a m : View) → SlipsHeld n slips → a .points ≡ n → Fits h n slips a → Tighter m a → Fits h n slips m
@@ -83,7 +84,7 @@ module _ (h n : ℕ) (slips : Slips) (r : Meaning) where
   none-sound m over no-sound k closed = no-sound k (closed .sound) (over k closed)
 
   closed-low : (k : View) → Closed h n slips r k → (i j : ℕ) → i < n → j < n → negℤ (pos 10080) ≤ℤ k .at i j
-  closed-low k closed i j a b = entry-low k (closed .sound) i j (omega (arith, closed .points)) (omega (arith, closed .points))
+  closed-low k closed i j a b = let l = sound-low k (closed .sound) i j in omega (arith, ints)
 
   -- an entry is below -10,080
   pub over-deep : (m : View) (i j : ℕ) → i < n → j < n → m .at i j <ℤ negℤ (pos 10080) → Over h n slips r m → NoneClosed h n slips r

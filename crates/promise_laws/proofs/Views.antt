@@ -1,21 +1,19 @@
--- The table of a plan; which tables hold all uses; how low an entry of a sound table can be, and when two sound tables are one.
+-- The table of a plan; which tables hold all uses; when two sound tables are one.
 use mathlib.Core.Logic.{_⊎_, inl, inr}
 use mathlib.Core.Path.{_≡_, sym, _∙_}
 use Prim.Native.Nat.{ℕ, _<_, _≤_}
 use native.Mathlib.Omega.{arith}
-use lib.IntN.{pos, _-ℤ_, negℤ}
+use lib.IntN.{pos}
 use lib.Signed.{_≤ℤ_}
 use Rattle.std.proofs.shelf.Signed.{ints}
 use Rattle.std.proofs.shelf.Tests.{cases-lt}
 use Rattle.std.proofs.shelf.Ways.{tells}
+use Rattle.model.proofs.Entries.{plan-entry}
 use Rattle.model.specs.Plans.{Plan, PlanOf, View, Meets, Sound, tableOf}
 use Rattle.model.specs.Uses.{Uses, Holds}
 use Rattle.promise_laws.specs.Held.{UsesHeld}
 
 -- ---- the table of a plan
-
-pub plan-entry : (n : ℕ) (t : Plan) (i j : ℕ) → i < n → j < n → tableOf n t .at i j ≡ pos (t j) -ℤ pos (t i)
-plan-entry n t i j a b = grind (arith, tells)
 
 plan-outside : (n : ℕ) (t : Plan) (i j : ℕ) → (n ≤ i) ⊎ (n ≤ j) → tableOf n t .at i j ≡ pos 10080
 plan-outside n t i j o = grind (arith, tells)
@@ -46,10 +44,6 @@ pub uses-in : (n : ℕ) (us : Uses) (m : View) → UsesHeld n us → m .points �
 uses-in n us m held points place number u stands = let l = held place number u stands in (omega arith, omega arith)
 
 -- ---- sound tables
-
--- 0 = m(i, i) ≤ m(i, j) + m(j, i) ≤ m(i, j) + 10,080
-pub entry-low : (m : View) → Sound m → (i j : ℕ) → i < m .points → j < m .points → negℤ (pos 10080) ≤ℤ m .at i j
-entry-low m s i j a b = omega (arith, ints, s .zero i a, s .triangle i j i a b a, s .within j i)
 
 -- an entry outside is 10,080 in both
 pub views-same : (m k : View) → Sound m → Sound k → m .points ≡ k .points → ((i j : ℕ) → i < m .points → j < m .points → m .at i j ≡ k .at i j) → m ≡ k

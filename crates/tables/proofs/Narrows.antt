@@ -47,10 +47,3 @@ narrowed-one m i j v = record {
     away p q ne =
         let s = lowered-elsewhere m i j v p q ne in
         record { below = subst (λ z. z ≤ℤ m .at p q) (sym s) (≤ℤ-refl (m .at p q)); under = λ b h. absurd (ne (h .0, h .1)); reached = inl s }
-
--- a bound that is no lower than its entry
-pub narrowed-kept : (m : View) (i j : ℕ) (v : ℤ) → m .at i j ≤ℤ v → Narrowed (One i j v) m m
-narrowed-kept m i j v h = record {
-  points = refl;
-  least = λ p q hp hq. record { below = ≤ℤ-refl (m .at p q); under = λ b w. rw (w .0, w .1, w .2) h; reached = inl refl };
-}

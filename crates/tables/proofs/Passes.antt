@@ -13,7 +13,7 @@ use Rattle.tables.specs.Closures.{Greatest, NoneUnder}
 use Rattle.tables.specs.Passes.{Relaxed, Lowers, Progress, RowClosed, AllClosed}
 use Rattle.tables.specs.Views.{tableView, lowered}
 use Rattle.tables.specs.declared.tables.Table.{Table}
-use Rattle.tables.proofs.Closures.{sound-low}
+use Rattle.model.proofs.Entries.{sound-low}
 use Rattle.tables.proofs.Entries.{at-high, at-outside}
 use Rattle.tables.proofs.Lowers.{lowered-here, lowered-tighter, tighter-lowered}
 use Rattle.tables.proofs.Orders.{tighter-refl, tighter-trans}

@@ -15,7 +15,7 @@ use Rattle.model.specs.Uses.{Uses}
 use Rattle.promise_laws.proofs.Steps.{over-sound, none-sound, over-refused, over-bounded, over-deep-given, still-bounded}
 use Rattle.promise_laws.specs.Held.{UsesHeld}
 use Rattle.promise_laws.specs.Steps.{Over}
-use Rattle.tables.proofs.Closures.{sound-low}
+use Rattle.model.proofs.Entries.{sound-low}
 use Rattle.tables.proofs.Orders.{tighter-trans}
 use Rattle.tables.proofs.Totals.{total-le, total-less}
 use Rattle.tables.specs.Closures.{Greatest, NoneUnder}

@@ -27,7 +27,7 @@ use Rattle.register.specs.Lookups.{lookup, whatOf}
 use Rattle.register.specs.Standing.{itemsOf, stands}
 use Rattle.register.specs.declared.records.Numbered.{Numbered}
 use Rattle.register.specs.declared.registers.Register.{Register}
-use Rattle.tables.proofs.Closures.{sound-low}
+use Rattle.model.proofs.Entries.{sound-low}
 use Rattle.tables.specs.Views.{startView}
 use Rattle.tightening.specs.Asked.{distances, TooLow, Posts}
 use Rattle.tightening.specs.Rounds.{Ends, Rests, Falls, Underway}

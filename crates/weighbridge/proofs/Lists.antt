@@ -1,20 +1,11 @@
 -- Uses of two lists together, and of a list with one more behind it.
 use mathlib.Core.List.{List, [], _∷_, _++_}
 use mathlib.Core.Logic.{_⊎_, inl, inr, ⊎-elim}
-use mathlib.Core.Path.{_≡_, refl}
-use Rattle.model.proofs.Gathers.{in-either}
+use mathlib.Core.Path.{_≡_}
+use Rattle.model.proofs.Members.{in-either, in-front, in-last}
 use Rattle.model.specs.Uses.{In}
 use Rattle.model.specs.declared.slips.Use.{Use}
 use Rattle.weighbridge_laws.specs.Weighbridges.{Before, Two}
-
-pub in-front : (u : Use) (us vs : List Use) → In u us → In u (us ++ vs)
-in-front u [] vs h = absurd h
-in-front u (x ∷ us) vs (inl e) = inl e
-in-front u (x ∷ us) vs (inr h) = inr (in-front u us vs h)
-
-pub in-last : (u : Use) (us : List Use) → In u (us ++ u ∷ [])
-in-last u [] = inl refl
-in-last u (x ∷ us) = inr (in-last u us)
 
 -- a use of the longer list is an earlier one, or the last
 pub in-push : (u x : Use) (us : List Use) → In u (us ++ x ∷ []) → In u us ⊎ (x ≡ u)

@@ -10,6 +10,7 @@ use Rattle.std.proofs.shelf.Signed.{ints, by-ltZ}
 use Rattle.std.proofs.shelf.Ways.{tells}
 use Rattle.model.proofs.Gathers.{held-points}
 use Rattle.model.specs.Meanings.{Lawful}
+use Rattle.model.proofs.Entries.{plan-entry}
 use Rattle.model.specs.Plans.{Plan, View, Within, Meets, Tighter, tableOf}
 use Rattle.model.specs.Uses.{Uses, In, standing}
 use Rattle.model.specs.declared.slips.Use.{Use}
@@ -80,17 +81,13 @@ module _ (us : List Use) (m n : View) (held : Held us m) (tight : Tighter m n) w
       let h = two-in a b us two in
       Gives.turn a b two (omega (arith, ints, first-below a b (h .0) (h .1))) i-is j-is c-is
 
--- inside, the table of a plan holds what lies between its points
-entry : (n : ℕ) (t : Plan) (i j : ℕ) → i < n → j < n → tableOf n t .at i j ≡ pos (t j) -ℤ pos (t i)
-entry n t i j hi hj = grind (arith, tells)
-
 -- under the table of a plan
 module _ (us : List Use) (n : ℕ) (t : Plan) (held : Held us (tableOf n t)) (fine : Refuses us (tableOf n t) → ⊥) where
   -- j comes before i, or i no later than j, and the table says which
   forth-or-back : {P : Type 0} (i j : ℕ) → i < n → j < n → (tableOf n t .at i j <ℤ pos 0 → P) → (tableOf n t .at j i ≤ℤ pos 0 → P) → P
   forth-or-back i j hi hj low high =
-      let e = entry n t i j hi hj in
-      let f = entry n t j i hj hi in
+      let e = plan-entry n t i j hi hj in
+      let f = plan-entry n t j i hj hi in
       by-ltZ (tableOf n t .at i j) (pos 0) low (λ h. high (omega (arith, ints)))
 
   vouched : Vouches us (tableOf n t)

@@ -10,13 +10,14 @@ use mir.Syntax.{w32}
 use mir.Val.{toZ, ofZ}
 use Rattle.std.proofs.shelf.Lists.{take-more}
 use Rattle.std.proofs.shelf.Signed.{ints}
+use Rattle.model.proofs.Members.{in-at}
 use Rattle.model.specs.Narrowings.{Narrowed}
 use Rattle.register.specs.Lookups.{whatOf}
 use Rattle.register.specs.declared.records.Numbered.{Numbered}
 use Rattle.model.specs.declared.slips.Distance.{Distance}
 use Rattle.tables.specs.Views.{tableView, lowered}
 use Rattle.tightening.specs.Asked.{distances, Posts}
-use Rattle.tightening.proofs.Passes.{lowered-table, posts-more, in-at}
+use Rattle.tightening.proofs.Passes.{lowered-table, posts-more}
 use Rattle.tightening.proofs.asked.post_slips.Needs as need
 
 abbrev blank : Numbered Distance
