@@ -12,8 +12,8 @@ use rules::pairs::PairLimit;
 use rules::pairs::PairRule;
 use rules::rule::Rule;
 use runs::calls::Call;
+use sheet::running::Played;
 use sheet::running::run;
-use sheet::sheets::Sheet;
 use std::alloc::Global;
 use std::io;
 use weighbridge::limit::WeighbridgeLimit;
@@ -31,8 +31,8 @@ fn yard(heap: Global) -> Result<Yard, Refusal> {
     Ok(Pair { left, right })
 }
 
-// The sheet of the day, tightened.
-pub fn trailer_sheet(heap: Global) -> Result<Sheet<Yard>, Refusal> {
+// The day played, with its sheet tightened.
+pub fn plan_trailer(heap: Global) -> Result<Played<Yard>, Refusal> {
     let gap = Distance {
         from: 2,
         to: 1,
@@ -51,7 +51,7 @@ pub fn trailer_sheet(heap: Global) -> Result<Sheet<Yard>, Refusal> {
         Call::Tighten,
     ];
     match run(heap, yard(heap)?, 1_440, &calls) {
-        Ok(played) => Ok(played.sheet),
+        Ok(played) => Ok(played),
         Err(why) => Err(why.refusal),
     }
 }
@@ -65,15 +65,17 @@ fn word_of(verdict: Verdict) -> &'static str {
 }
 
 // Prints the earliest and the latest minute of each point, and the verdict.
-pub fn print_sheet(rt: &LibcRuntime, sheet: &mut Sheet<Yard>) -> io::Result<()> {
+pub fn print_plan(rt: &LibcRuntime, played: &Played<Yard>) -> io::Result<()> {
     println!(rt, "label earliest latest")?;
     let labels = ["opening", "unhook", "weigh"];
     for (p, label) in labels.iter().enumerate() {
-        let earliest = sheet.bound(p, 0).unwrap_or(0).saturating_neg();
-        let latest = sheet.bound(0, p).unwrap_or(0);
+        let earliest = played.sheet.bound(p, 0).unwrap_or(0).saturating_neg();
+        let latest = played.sheet.bound(0, p).unwrap_or(0);
         println!(rt, "{label} {earliest} {latest}")?;
     }
-    let answer = sheet.tighten();
+    let Some(answer) = played.told.answer else {
+        return Ok(());
+    };
     let word = word_of(answer.verdict);
     let count = answer.count;
     println!(rt, "\nverdict loose\n{word} {count}")

@@ -1,6 +1,6 @@
 // Reads the day's two files, and answers whether they can be read.
-use crate::example::print_sheet;
-use crate::example::trailer_sheet;
+use crate::example::plan_trailer;
+use crate::example::print_plan;
 use dayfile::faults::DayFile;
 use dayfile::faults::Fault;
 use dayfile::files::MOST_BYTES;
@@ -68,9 +68,9 @@ fn slice_of(bytes: &Option<Vec<u8>>) -> Option<&[u8]> {
 // Plans the day that is built in.
 fn print_example(rt: &LibcRuntime) -> Result<(), AnyError> {
     println!(rt, "the trailer's day, which is built in:\n")?;
-    match trailer_sheet(rt.alloc()) {
-        Ok(mut sheet) => {
-            print_sheet(rt, &mut sheet)?;
+    match plan_trailer(rt.alloc()) {
+        Ok(played) => {
+            print_plan(rt, &played)?;
             Ok(())
         }
         Err(_) => Err("no memory for the sheet".into()),

@@ -30,6 +30,14 @@ refusalOf (Tightened a) = None
 refusalOf (Bound r) = None
 refusalOf (Levels r) = None
 
+-- what a tightening answered
+abbrev pub answerOf : Reply → Option Answer
+answerOf (Named r) = None
+answerOf (Changed r) = None
+answerOf (Tightened a) = Some a
+answerOf (Bound r) = None
+answerOf (Levels r) = None
+
 module _ {S : Type 0} (takes : Takes S) (means : Means S) (d : Day S) where
   -- the answer of a call on a sheet that shows this, and shows that afterwards
   abbrev pub Replies : (before after : Shown) → Call → Reply → Type 0
@@ -76,3 +84,13 @@ abbrev pub earlierOf : Option (ℕ × Refusal) → ℕ → Option Refusal → Op
 earlierOf (Some w) i refused = Some w
 earlierOf None i None = None
 earlierOf None i (Some why) = Some (i, why)
+
+-- the later of two answers, if there is one
+abbrev pub laterOf : Option Answer → Option Answer → Option Answer
+laterOf before None = before
+laterOf before (Some a) = Some a
+
+-- it is the answer of tightening a sheet of n points that shows this
+abbrev pub AnsweredFor : ℕ → Shown → Option Answer → Type 0
+AnsweredFor n shown None = ⊥
+AnsweredFor n shown (Some a) = Answers n shown a

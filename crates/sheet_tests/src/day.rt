@@ -41,6 +41,14 @@ fn ruled(heap: Global) -> Result<Sheet<Yard>, Fail> {
     }
 }
 
+fn distance(from: usize, to: usize, minutes: i32) -> Distance {
+    Distance { from, to, minutes }
+}
+
+fn use_of(first: usize, last: usize, kilos: i32) -> Use {
+    Use { first, last, kilos }
+}
+
 // That the point p lies between two minutes, by the slips of these numbers.
 fn window(
     sheet: &mut Sheet<Yard>,
@@ -49,18 +57,11 @@ fn window(
     earliest: i32,
     latest: i32,
 ) -> Result<(), Refusal> {
-    let until = Distance {
-        from: 0,
-        to: p,
-        minutes: latest,
-    };
-    let since = Distance {
-        from: p,
-        to: 0,
-        minutes: earliest.saturating_neg(),
-    };
-    sheet.post_distance(number, until)?;
-    sheet.post_distance(number.saturating_add(1), since)
+    sheet.post_distance(number, distance(0, p, latest))?;
+    sheet.post_distance(
+        number.saturating_add(1),
+        distance(p, 0, earliest.saturating_neg()),
+    )
 }
 
 // Points 1 and 2 bring 400 kilos and take them: 1 in 0-50, 2 in 20-60. The bridge is crossed from 0 to 3 and from 4 to 5: 3 at 10,
@@ -74,58 +75,12 @@ fn posted(heap: Global) -> Result<Sheet<Yard>, Fail> {
     window(&mut sheet, 3, 2, 20, 60)?;
     window(&mut sheet, 5, 3, 10, 10)?;
     window(&mut sheet, 7, 4, 5, 30)?;
-    sheet.post_distance(
-        9,
-        Distance {
-            from: 4,
-            to: 5,
-            minutes: 5,
-        },
-    )?;
-    sheet.post_distance(
-        10,
-        Distance {
-            from: 5,
-            to: 4,
-            minutes: -5,
-        },
-    )?;
-    sheet.post_use(
-        0,
-        1,
-        Use {
-            first: 1,
-            last: 1,
-            kilos: 400,
-        },
-    )?;
-    sheet.post_use(
-        0,
-        2,
-        Use {
-            first: 2,
-            last: 2,
-            kilos: -400,
-        },
-    )?;
-    sheet.post_use(
-        2,
-        1,
-        Use {
-            first: 0,
-            last: 3,
-            kilos: 0,
-        },
-    )?;
-    sheet.post_use(
-        2,
-        2,
-        Use {
-            first: 4,
-            last: 5,
-            kilos: 0,
-        },
-    )?;
+    sheet.post_distance(9, distance(4, 5, 5))?;
+    sheet.post_distance(10, distance(5, 4, -5))?;
+    sheet.post_use(0, 1, use_of(1, 1, 400))?;
+    sheet.post_use(0, 2, use_of(2, 2, -400))?;
+    sheet.post_use(2, 1, use_of(0, 3, 0))?;
+    sheet.post_use(2, 2, use_of(4, 5, 0))?;
     Ok(sheet)
 }
 
@@ -174,36 +129,15 @@ fn withdrawn_and_tightened_again(rt: LibcRuntime) -> Result<(), Fail> {
 #[test]
 fn clash_is_no_plan(rt: LibcRuntime) -> Result<(), Fail> {
     let mut sheet = posted(rt.alloc())?;
-    sheet.post_distance(
-        11,
-        Distance {
-            from: 2,
-            to: 1,
-            minutes: 0,
-        },
-    )?;
-    sheet.post_distance(
-        12,
-        Distance {
-            from: 1,
-            to: 2,
-            minutes: -1,
-        },
-    )?;
+    sheet.post_distance(11, distance(2, 1, 0))?;
+    sheet.post_distance(12, distance(1, 2, -1))?;
     let answer = sheet.tighten();
     check_eq(answer.verdict, Verdict::NoPlan)?;
     check_eq(answer.loose, 0)?;
     check_eq(answer.count, 0)?;
     check_eq(sheet.bound(0, 1), Err(Refusal::NoPlan))?;
     check_eq(
-        sheet.post_distance(
-            12,
-            Distance {
-                from: 1,
-                to: 2,
-                minutes: 0,
-            },
-        ),
+        sheet.post_distance(12, distance(1, 2, 0)),
         Err(Refusal::NumberStands),
     )?;
     check_eq(sheet.bound(0, 1), Err(Refusal::NoPlan))
@@ -215,83 +149,24 @@ fn refused_calls_in_order(rt: LibcRuntime) -> Result<(), Fail> {
     check_eq(sheet.name(b"opening"), Err(Refusal::LabelTaken))?;
     check_eq(sheet.name(b""), Err(Refusal::BadLabel))?;
     check_eq(sheet.name(b"gate"), Ok(1))?;
-    let far = Distance {
-        from: 0,
-        to: 2,
-        minutes: 2_000,
-    };
+    let far = distance(0, 2, 2_000);
     check_eq(sheet.post_distance(0, far), Err(Refusal::BadSlipNumber))?;
     check_eq(sheet.post_distance(1, far), Err(Refusal::NoPoint))?;
     check_eq(
-        sheet.post_distance(
-            1,
-            Distance {
-                from: 1,
-                to: 1,
-                minutes: 2_000,
-            },
-        ),
+        sheet.post_distance(1, distance(1, 1, 2_000)),
         Err(Refusal::SamePoint),
     )?;
     check_eq(
-        sheet.post_distance(
-            1,
-            Distance {
-                from: 0,
-                to: 1,
-                minutes: 2_000,
-            },
-        ),
+        sheet.post_distance(1, distance(0, 1, 2_000)),
         Err(Refusal::BadDistance),
     )?;
+    check_eq(sheet.post_use(3, 0, use_of(9, 9, 0)), Err(Refusal::NoPlace))?;
     check_eq(
-        sheet.post_use(
-            3,
-            0,
-            Use {
-                first: 9,
-                last: 9,
-                kilos: 0,
-            },
-        ),
-        Err(Refusal::NoPlace),
-    )?;
-    check_eq(
-        sheet.post_use(
-            0,
-            0,
-            Use {
-                first: 9,
-                last: 9,
-                kilos: 0,
-            },
-        ),
+        sheet.post_use(0, 0, use_of(9, 9, 0)),
         Err(Refusal::BadSlipNumber),
     )?;
-    check_eq(
-        sheet.post_use(
-            0,
-            1,
-            Use {
-                first: 9,
-                last: 9,
-                kilos: 0,
-            },
-        ),
-        Err(Refusal::NoPoint),
-    )?;
-    check_eq(
-        sheet.post_use(
-            0,
-            1,
-            Use {
-                first: 1,
-                last: 1,
-                kilos: 0,
-            },
-        ),
-        Err(Refusal::BadUse),
-    )?;
+    check_eq(sheet.post_use(0, 1, use_of(9, 9, 0)), Err(Refusal::NoPoint))?;
+    check_eq(sheet.post_use(0, 1, use_of(1, 1, 0)), Err(Refusal::BadUse))?;
     check_eq(sheet.withdraw_distance(1), Err(Refusal::NotStanding))?;
     check_eq(sheet.withdraw_use(3, 1), Err(Refusal::NoPlace))?;
     check_eq(sheet.withdraw_use(0, 1), Err(Refusal::NotStanding))

@@ -1,16 +1,18 @@
 // Calls as values, one and many.
 ghost use mathlib.Core.Path.{_≡_};
-ghost use Rattle.runs.specs.Days.{after};
+ghost use Rattle.runs.specs.Days.{after, points};
 ghost use Rattle.runs.specs.Held.{Held};
 ghost use Rattle.runs.specs.Runs.{Settled};
 ghost use Rattle.runs.specs.Shown.{Shows};
-ghost use Rattle.sheet.specs.Replies.{Applied, FirstRefused, earlierOf};
+ghost use Rattle.sheet.specs.Replies.{Applied, FirstRefused, AnsweredFor, earlierOf, laterOf};
 ghost use Rattle.sheet.specs.Sheets.{dayOf, shownOf};
 use super::Sheet;
 use crate::replies::Reply;
+use crate::replies::Told;
 use model::refusals::Refusal;
 use rules::limit::Limit;
 use rules::rule::Rule;
+use runs::answers::Answer;
 use runs::calls::Call;
 
 impl<L: Limit> Sheet<L> {
@@ -34,19 +36,31 @@ impl<L: Limit> Sheet<L> {
         }
     }
 
-    // Makes the calls one after another, and tells the first naming, posting or withdrawal that is refused, by its place in the list.
-    // A refused call changes nothing, and the calls after it are made all the same.
-    pub fn play(&mut self, calls: &[Call<'_>]) -> Option<(usize, Refusal)>
+    // Makes the calls one after another. A refused call changes nothing, and the calls after it are made all the same.
+    pub fn play(&mut self, calls: &[Call<'_>]) -> Told
         ensures day { λ _. ⌜ dayOf (L·Rule .settings) (L·Rule .uses) (now (self .exit)) ≡ after (record { width = L·Rule .width; most = L·Limit .most; form = L·Limit .form }) (dayOf (L·Rule .settings) (L·Rule .uses) (now (self .entry))) (now (calls .entry)) ⌝ }
-        ensures refused { λ r. ⌜ FirstRefused (record { width = L·Rule .width; most = L·Limit .most; form = L·Limit .form }) (dayOf (L·Rule .settings) (L·Rule .uses) (now (self .entry))) (now (calls .entry)) r ⌝ }
+        ensures refused { λ r. ⌜ FirstRefused (record { width = L·Rule .width; most = L·Limit .most; form = L·Limit .form }) (dayOf (L·Rule .settings) (L·Rule .uses) (now (self .entry))) (now (calls .entry)) (r .refused) ⌝ }
         ensures shows { λ _. ⌜ (Held (dayOf (L·Rule .settings) (L·Rule .uses) (now (self .entry))) → Settled (record { width = L·Rule .width; most = L·Limit .most; form = L·Limit .form }) (dayOf (L·Rule .settings) (L·Rule .uses) (now (self .entry))) (now (calls .entry)) → Shows (L·Rule .meaning) (dayOf (L·Rule .settings) (L·Rule .uses) (now (self .exit))) (shownOf (now (self .exit)))) ⌝ }
+        ensures answer { λ r. ⌜ (Held (dayOf (L·Rule .settings) (L·Rule .uses) (now (self .entry))) → Settled (record { width = L·Rule .width; most = L·Limit .most; form = L·Limit .form }) (dayOf (L·Rule .settings) (L·Rule .uses) (now (self .entry))) (now (calls .entry)) → AnsweredFor (points (dayOf (L·Rule .settings) (L·Rule .uses) (now (self .exit)))) (shownOf (now (self .exit))) (r .answer)) ⌝ }
     {
-        let mut first = None;
+        let mut refused = None;
+        let mut answer = None;
         for (i, call) in calls.iter().enumerate() {
-            let refused = self.apply(*call).refusal();
-            first = earlier(first, i, refused);
+            let reply = self.apply(*call);
+            refused = earlier(refused, i, reply.refusal());
+            answer = later(answer, reply.answer());
         }
-        first
+        Told { refused, answer }
+    }
+}
+
+// The later of two answers.
+fn later(before: Option<Answer>, answer: Option<Answer>) -> Option<Answer>
+    ensures { λ r. ⌜ r ≡ laterOf before answer ⌝ }
+{
+    match answer {
+        Some(_) => answer,
+        None => before,
     }
 }
 
