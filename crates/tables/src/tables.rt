@@ -7,6 +7,7 @@ use crate::bounds::Bounds;
 
 mod access;
 mod close;
+mod copy;
 mod relax;
 mod start;
 

@@ -3,23 +3,15 @@ ghost use mathlib.Core.Bool.{cond};
 ghost use mathlib.Core.Path.{_≡_};
 ghost use lib.IntN.{negsuc};
 ghost use lib.Signed.{leZ};
-ghost use Rattle.tables.specs.Views.{boundsView, tableView, lowered};
+ghost use Rattle.tables.specs.Views.{tableView, lowered};
 use super::LOWEST;
 use super::Table;
-use crate::bounds::Bounds;
 
 impl Table {
     pub fn points(&self) -> usize
         ensures { λ r. ⌜ r ≡ tableView (now (self .entry)) .points ⌝ }
     {
         self.bounds.points()
-    }
-
-    // The entries as bounds, to be lowered further.
-    pub fn to_bounds(&self) -> Bounds
-        ensures { λ r. ⌜ boundsView r ≡ tableView (now (self .entry)) ⌝ }
-    {
-        self.bounds
     }
 
     // The entry at (i, j), or 10,080 where there is no such pair.
