@@ -18,7 +18,7 @@ use model::slips::Use;
 use tables::bounds::Bounds;
 use tables::tables::Table;
 
-// The point p comes no later than the moment.
+// Asks that the point p come no later than the moment.
 fn require_by(p: usize, at: Moment, bounds: &mut Bounds)
     requires { ⌜ InDay at ⌝ }
     ensures { λ _. ⌜ Narrowed (ByBound p at) (boundsView (now (bounds .entry))) (boundsView (now (bounds .exit))) ⌝ }
@@ -29,7 +29,7 @@ fn require_by(p: usize, at: Moment, bounds: &mut Bounds)
     }
 }
 
-// It comes after the moment.
+// Asks that it come after the moment.
 fn require_after(p: usize, at: Moment, bounds: &mut Bounds)
     requires { ⌜ InDay at ⌝ }
     ensures { λ _. ⌜ Narrowed (AfterBound p at) (boundsView (now (bounds .entry))) (boundsView (now (bounds .exit))) ⌝ }
@@ -40,7 +40,7 @@ fn require_after(p: usize, at: Moment, bounds: &mut Bounds)
     }
 }
 
-// The use is active at the moment: a delivery is done, a loan is out.
+// Asks that the use be active at the moment: a delivery done, a loan out.
 fn require_active(at: Moment, what: Use, bounds: &mut Bounds)
     requires { ⌜ InDay at ⌝ }
     ensures { λ _. ⌜ Narrowed (ActiveBounds at what) (boundsView (now (bounds .entry))) (boundsView (now (bounds .exit))) ⌝ }
@@ -51,7 +51,7 @@ fn require_active(at: Moment, what: Use, bounds: &mut Bounds)
     }
 }
 
-// The use is idle at the moment: a delivery is due. A loan that ends after it begins after it, and one that began by it is over.
+// Asks that the use be idle at the moment: a delivery due; a loan that ends after it not begun, one that began by it over.
 fn require_idle(table: &Table, at: Moment, what: Use, bounds: &mut Bounds)
     requires { ⌜ InDay at ⌝ }
     ensures { λ _. ⌜ Narrowed (IdleBounds (tableView (now (table .entry))) at what) (boundsView (now (bounds .entry))) (boundsView (now (bounds .exit))) ⌝ }
@@ -65,7 +65,7 @@ fn require_idle(table: &Table, at: Moment, what: Use, bounds: &mut Bounds)
     }
 }
 
-// A loan ends no earlier than it begins.
+// Asks that a loan end no earlier than it begins.
 fn require_order(what: Use, bounds: &mut Bounds)
     ensures { λ _. ⌜ Narrowed (OrderBound what) (boundsView (now (bounds .entry))) (boundsView (now (bounds .exit))) ⌝ }
 {
