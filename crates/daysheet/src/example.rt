@@ -32,7 +32,7 @@ fn yard(heap: Global) -> Result<Yard, Refusal> {
 }
 
 // The day played, with its sheet tightened.
-pub fn plan_trailer(heap: Global) -> Result<Played<Yard>, Refusal> {
+pub(crate) fn plan_trailer(heap: Global) -> Result<Played<Yard>, Refusal> {
     let gap = Distance {
         from: 2,
         to: 1,
@@ -65,7 +65,7 @@ fn word_of(verdict: Verdict) -> &'static str {
 }
 
 // Prints the earliest and the latest minute of each point, and the verdict.
-pub fn print_plan(rt: &LibcRuntime, played: &Played<Yard>) -> io::Result<()> {
+pub(crate) fn print_plan(rt: &LibcRuntime, played: &Played<Yard>) -> io::Result<()> {
     println!(rt, "label earliest latest")?;
     let labels = ["opening", "unhook", "weigh"];
     for (p, label) in labels.iter().enumerate() {
