@@ -1,5 +1,7 @@
 // Times the tightening of days: `bench ROUNDS FOLDER..` prints for each folder the verdict, the count of loose points, and the
 // nanoseconds of one tightening and of the whole way from the files' bytes to the answer. Without arguments it does nothing.
+#![tactic(auto)]
+
 use anyhow::anyhow;
 use bunker_laws::settings::Settings;
 use dayfile::reading::read_day;

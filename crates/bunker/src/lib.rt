@@ -1,4 +1,6 @@
 // A bunker as a rule and as a limit. What it means stands in the crate bunker_laws.
+#![tactic(auto)]
+
 pub mod bunkers;
 pub mod limit;
 pub mod rule;

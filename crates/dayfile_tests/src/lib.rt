@@ -1,4 +1,6 @@
 // Tests of `dayfile` on examples.
+#![tactic(auto)]
+
 #[cfg(test)]
 mod reading;
 #[cfg(test)]

@@ -1,4 +1,6 @@
 // Reads the two files of a day, plans the day, and prints the answer or the first fault.
+#![tactic(auto)]
+
 use crate::words::reason;
 use anyhow::anyhow;
 use dayfile::faults::{DayFile, Fault};

@@ -1,4 +1,6 @@
 // Tests of bunkers, weighbridges and pairs on tables worked out by hand.
+#![tactic(auto)]
+
 #[cfg(test)]
 mod bunkers;
 #[cfg(test)]

@@ -1,4 +1,6 @@
 // The plain values that every other crate speaks of. docs/SCOPE.md defines each term.
+#![tactic(auto)]
+
 pub mod labels;
 pub mod moments;
 pub mod refusals;

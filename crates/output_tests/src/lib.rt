@@ -1,3 +1,5 @@
 // Tests of the output, byte by byte.
+#![tactic(auto)]
+
 #[cfg(test)]
 mod trailer;

@@ -1,3 +1,5 @@
 // The worked days, run on the sheet itself.
+#![tactic(auto)]
+
 #[cfg(test)]
 mod days;

@@ -19,5 +19,5 @@ returns c =
           get_or-take n bytes k d within ∙ (get_or_default bytes k d 0 here ∙ (c.loop-i.invariant.1 k (omega arith) ∙ sym (get_or_default text k d 0 within)))),
     )
 
-pub returns-then-not-is-label-byte : goal.returns-then-not-is-label-byte
-returns-then-not-is-label-byte c = (refl, no_label_byte c.args.text.now c.loop-i.i c.loop-i-test.true (sym c.if-not-is-label-byte.ensures))
+pub returns-then-not-is_label_byte : goal.returns-then-not-is_label_byte
+returns-then-not-is_label_byte c = (refl, no_label_byte c.args.text.now c.loop-i.i c.loop-i-test.true (sym c.if-not-is_label_byte.ensures))
