@@ -1,30 +1,23 @@
-// Reads the two files of a day, plans the day, and prints the answer or the first fault.
+// Reads the day's two files, and answers whether they can be read.
 #![tactic(auto)]
 
-use crate::words::reason;
+use crate::example::{plan_trailer, print_plan};
 use anyhow::anyhow;
 use dayfile::faults::{DayFile, Fault};
 use dayfile::files::{MOST_BYTES, check_files};
-use dayfile::lines::faulty_line;
-use planning::faults::NotPlanned;
-use planning::plans::plan_day;
-use std::io::{Read, Write};
+use std::io::Read;
 use std::path::Path;
 use std::{env, fs, io};
 
-mod words;
+mod example;
 
 const HELP: &str = "daysheet [FOLDER]
 
 Reads bridge.day and hall.day of FOLDER, or of the folder that it runs in, and
-prints the tightened day: the earliest and the latest minute of each point, the
-verdict (noplan, open or any) and the number of loose points; under noplan the
-verdict alone. Where a file cannot be read or a line is refused, it prints the
-first fault as the table `file line refusal` (1 is bridge.day, 2 is hall.day),
-says on standard error what is wrong, and ends with status 1.";
-
-// Room for the output of any day.
-const MOST_OUTPUT: usize = 2_048;
+answers whether both are there, at most 65,536 bytes long and ended by a line
+feed; then plans the trailer's day, which is built in. A fault is printed as the
+table `file line refusal` (1 is bridge.day, 2 is hall.day), and ends the program
+with status 1.";
 
 // The bytes of a file, one more than is allowed at the most, or None where it cannot be read.
 fn bytes_of(rt: &HostRuntime, folder: &str, name: &str) -> Option<Vec<u8>> {
@@ -50,41 +43,13 @@ fn name_of(file: DayFile) -> &'static str {
 }
 
 // Prints the fault: a table of one line for programs, and a sentence for people.
-fn print_fault(rt: &HostRuntime, fault: Fault, line: &[u8]) -> io::Result<()> {
+fn print_fault(rt: &HostRuntime, fault: Fault) -> io::Result<()> {
     let file = fault.file.number();
-    let at = fault.line;
+    let line = fault.line;
     let number = fault.refusal.number().unwrap_or(0);
-    println!(rt; "file line refusal\n{file} {at} {number}")?;
+    println!(rt; "file line refusal\n{file} {line} {number}")?;
     let name = name_of(fault.file);
-    let why = reason(fault.refusal);
-    if at == 0 {
-        return eprintln!(rt; "{name}: {why}");
-    }
-    eprint!(rt; "{name}, line {at}: '")?;
-    rt.stderr().write_all(line)?;
-    eprintln!(rt; "': {why}")
-}
-
-// Prints the answer for two files, or their first fault.
-fn print_day(rt: &HostRuntime, bridge: &Vec<u8>, hall: &Vec<u8>) -> anyhow::Result<()> {
-    let mut output = [0u8; MOST_OUTPUT];
-    match plan_day(rt.alloc(), bridge.as_slice(), hall.as_slice(), &mut output) {
-        Ok(len) => {
-            if let Some(text) = output.get(0..len) {
-                rt.stdout().write_all(text)?;
-            }
-            Ok(())
-        }
-        Err(NotPlanned::Fault(fault)) => {
-            let line = faulty_line(bridge.as_slice(), hall.as_slice(), fault);
-            print_fault(rt, fault, line)?;
-            Err(anyhow!("a fault in the day's files"))
-        }
-        Err(NotPlanned::Refused(_)) => {
-            eprintln!(rt; "there is not enough memory to plan the day")?;
-            Err(anyhow!("no memory"))
-        }
-    }
+    eprintln!(rt; "{name}: missing, longer than 65,536 bytes, or not ended by a line feed")
 }
 
 fn slice_of(bytes: &Option<Vec<u8>>) -> Option<&[u8]> {
@@ -94,17 +59,31 @@ fn slice_of(bytes: &Option<Vec<u8>>) -> Option<&[u8]> {
     }
 }
 
+// Plans the day that is built in.
+fn print_example(rt: &HostRuntime) -> anyhow::Result<()> {
+    println!(rt; "the trailer's day, which is built in:\n")?;
+    match plan_trailer(rt.alloc()) {
+        Ok(played) => {
+            print_plan(rt, &played)?;
+            Ok(())
+        }
+        Err(_) => Err(anyhow!("no memory for the sheet")),
+    }
+}
+
 // Answers for the day files of one folder.
 fn answer(rt: &HostRuntime, folder: &str) -> anyhow::Result<()> {
     let bridge = bytes_of(rt, folder, "bridge.day");
     let hall = bytes_of(rt, folder, "hall.day");
-    if let Err(fault) = check_files(slice_of(&bridge), slice_of(&hall)) {
-        print_fault(rt, fault, b"")?;
-        return Err(anyhow!("a file cannot be read"));
-    }
-    match (bridge, hall) {
-        (Some(bridge), Some(hall)) => print_day(rt, &bridge, &hall),
-        _ => Ok(()),
+    match check_files(slice_of(&bridge), slice_of(&hall)) {
+        Ok(()) => {
+            println!(rt; "bridge.day and hall.day can be read\n")?;
+            print_example(rt)
+        }
+        Err(fault) => {
+            print_fault(rt, fault)?;
+            Err(anyhow!("a fault in the day's files"))
+        }
     }
 }
 
