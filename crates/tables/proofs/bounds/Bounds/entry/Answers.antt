@@ -1,21 +1,21 @@
-use Rattle.std.proofs.Common.{◌≡◌, ◌+◌, ◌*◌, ◌<◌, length, get_or, pos, sym, ◌∙◌, arith, rules}
+use Rattle.std.proofs.Common.{◌≡◌, ◌+◌, ◌*◌, ◌<◌, length, pos, sym, ◌∙◌, arith, rules}
 use Rattle.std.proofs.lemmas.Int.{ints}
 use Rattle.std.proofs.lemmas.List.{get_or_default}
 use Rattle.tables.specs.Views.{bounds_view}
 use Rattle.tables.proofs.Entries.{at_inside}
 use Rattle.tables.proofs.bounds.Bounds.entry.Goals as goal
 
-pub overflow-mul-i : goal.overflow-mul-i
+pub overflow_mul-i : goal.overflow_mul-i
 unfolding bounds_view
-overflow-mul-i c = search rules
+overflow_mul-i c = search rules
 
-pub overflow-add-i : goal.overflow-add-i
+pub overflow_add-i : goal.overflow_add-i
 unfolding bounds_view
-overflow-add-i c = search rules
+overflow_add-i c = search rules
 
-pub offset-bounds-self-i : goal.offset-bounds-self-i
+pub offset_bounds-self-i : goal.offset_bounds-self-i
 unfolding bounds_view
-offset-bounds-self-i c = search rules
+offset_bounds-self-i c = search rules
 
 pub bounds-self-i : goal.bounds-self-i
 unfolding bounds_view

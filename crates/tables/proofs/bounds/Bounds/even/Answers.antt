@@ -6,15 +6,14 @@ use Rattle.tables.proofs.Entries.{replicate_by}
 use Rattle.tables.proofs.Written.{even_view_holds}
 use Rattle.tables.proofs.bounds.Bounds.even.Goals as goal
 
-pub invariant-of-result : goal.invariant-of-result
-invariant-of-result c =
-    let v = to_z w16 (of_z w16 c.args.bound) in (
-      c.requires.few,
-      (
-        replicate_by 4096 v (pos 10080) (λ x. negsuc 10080 ≤ℤ x) (omega (arith, ints)) (omega (arith, ints)),
-        (replicate_by 4096 v (pos 10080) (λ x. x ≤ℤ pos 10080) (omega (arith, ints)) (omega (arith, ints)), tt),
-      ),
-    )
+pub invariant_of-result : goal.invariant_of-result
+invariant_of-result c =
+    let v = to_z w16 (of_z w16 c.args.bound) in
+    record {
+      few = c.requires.few;
+      low = replicate_by 4096 v (pos 10080) (λ x. negsuc 10080 ≤ℤ x) (omega (arith, ints)) (omega (arith, ints));
+      high = replicate_by 4096 v (pos 10080) (λ x. x ≤ℤ pos 10080) (omega (arith, ints)) (omega (arith, ints));
+    }
 
 pub returns : goal.returns
 returns c =

@@ -1,4 +1,4 @@
-use Rattle.std.proofs.Common.{◌≡◌, ◌+◌, ◌*◌, ◌<◌, length, ℤ, pos, negsuc, ◌≤ℤ◌, sym, refl, arith, w16, w32, to_z, of_z, rules}
+use Rattle.std.proofs.Common.{◌≡◌, ◌<◌, length, ℤ, pos, negsuc, ◌≤ℤ◌, sym, refl, arith, w16, w32, to_z, of_z, rules}
 use Rattle.std.specs.Int.{int_max, int_min}
 use Rattle.std.proofs.lemmas.Int.{ints, clamps}
 use Rattle.tables.specs.Views.{bounds_view}
@@ -12,18 +12,17 @@ pub entry-requires : goal.entry-requires
 unfolding bounds_view
 entry-requires c = search rules
 
-pub invariant-of-self : goal.invariant-of-self
-invariant-of-self c =
+pub invariant_of-self : goal.invariant_of-self
+invariant_of-self c =
     let b = c.args.self.now in
     let i = c.args.i in
     let j = c.args.j in
-    let v : ℤ = to_z w16 (of_z w16 (to_z w32 (of_z w32 c.max.result))) in (
-      b.few,
-      (
-        set_by b.entries _ v (pos 10080) (λ x. negsuc 10080 ≤ℤ x) (omega (arith, ints, clamps)) b.low,
-        (set_by b.entries _ v (pos 10080) (λ x. x ≤ℤ pos 10080) (omega (arith, ints, clamps, at_high b i j)) b.high, tt),
-      ),
-    )
+    let v : ℤ = to_z w16 (of_z w16 (to_z w32 (of_z w32 c.max.result))) in
+    record {
+      few = b.few;
+      low = set_by b.entries _ v (pos 10080) (λ x. negsuc 10080 ≤ℤ x) (omega (arith, ints, clamps)) b.low;
+      high = set_by b.entries _ v (pos 10080) (λ x. x ≤ℤ pos 10080) (omega (arith, ints, clamps, at_high b i j)) b.high;
+    }
 
 pub returns-then-v-entry : goal.returns-then-v-entry
 returns-then-v-entry c =

@@ -4,8 +4,8 @@ use Rattle.tables.specs.Ways.{LongWays}
 use Rattle.tables.proofs.Rows.{row_size, row_low, row_high, row_relaxed}
 use Rattle.tables.proofs.bounds.Bounds.relax_row.Goals as goal
 
-pub relax-each-requires : goal.relax-each-requires
-relax-each-requires c =
+pub relax_each-requires : goal.relax_each-requires
+relax_each-requires c =
     let b = c.args.self.now in
     let i = c.args.i in
     let n = i * 64 + b.points - i * 64 in
@@ -17,20 +17,19 @@ relax-each-requires c =
       high = λ j h. omega (arith, ints, c.requires.high j (omega arith));
     }
 
-pub invariant-of-self : goal.invariant-of-self
-invariant-of-self c =
+pub invariant_of-self : goal.invariant_of-self
+invariant_of-self c =
     let b = c.args.self.now in
     let i = c.args.i in
     let n = i * 64 + b.points - i * 64 in
     let all : n ≡ b.points = omega arith in
     let long : length b.entries ≡ 4096 = search rules in
-    let so = c.relax-each.ensures.after in (
-      b.few,
-      (
-        row_low b i n _ c.args.over.now c.relax-each.new.row all long c.requires.from so,
-        (row_high b i n _ c.args.over.now c.relax-each.new.row all long c.requires.from so, tt),
-      ),
-    )
+    let so = c.relax_each.ensures.after in
+    record {
+      few = b.few;
+      low = row_low b i n _ c.args.over.now c.relax_each.new.row all long c.requires.from so;
+      high = row_high b i n _ c.args.over.now c.relax_each.new.row all long c.requires.from so;
+    }
 
 pub returns : goal.returns
 returns c =
@@ -42,9 +41,9 @@ returns c =
     let long : length b.entries ≡ 4096 = search rules in
     let size = row_size b i n all long c.requires.from in
     let same = to_z-of_z w16 c.args.first c.ranges.first in
-    let test = c.relax-each.ensures.test in
-    let ways : c.relax-each.result ≡ true → LongWays c.args.first over b.points = λ e j h. omega (arith, ints, test.0 e j (omega arith)) in
+    let test = c.relax_each.ensures.test in
+    let ways : c.relax_each.result ≡ true → LongWays c.args.first over b.points = λ e j h. omega (arith, ints, test.0 e j (omega arith)) in
     record {
       test = (ways, λ w. test.1 (λ j h. omega (arith, ints, w j (omega arith))));
-      after = λ e. row_relaxed b i n _ over c.relax-each.new.row all long c.requires.from c.relax-each.ensures.after _ c.args.first refl refl same (ways e);
+      after = λ e. row_relaxed b i n _ over c.relax_each.new.row all long c.requires.from c.relax_each.ensures.after _ c.args.first refl refl same (ways e);
     }

@@ -7,9 +7,9 @@ use Rattle.tables.proofs.Entries.{at_low, at_high}
 use Rattle.tables.proofs.Rows.{through_more, long_more, long_row}
 use Rattle.tables.proofs.bounds.Bounds.relax_rows.Goals as goal
 
-pub relax-row-requires : goal.relax-row-requires
+pub relax_row-requires : goal.relax_row-requires
 unfolding bounds_view
-relax-row-requires c =
+relax_row-requires c =
     let a = c.args.self.now in
     let k = c.args.k in
     let same = c.loop-i.invariant.0.same in
@@ -26,14 +26,14 @@ loop-i-preserved c =
     let so = c.loop-i.invariant.0 in
     let first : ℤ = to_z w16 (of_z w16 (to_z w32 (of_z w32 c.entry-first.result))) in
     let is : first ≡ (bounds_view c.loop-i.self).at c.loop-i.i c.args.k = omega (arith, ints) in
-    let ways : LongWays first c.args.over.now c.args.self.now.points = λ j h. c.if-not-relax-row.ensures.test.0 refl j (omega (arith, so.same)) in (
-      through_more c.args.k c.loop-i.i first c.args.over.now _ _ so c.requires.row is _ (c.if-not-relax-row.ensures.after refl),
+    let ways : LongWays first c.args.over.now c.args.self.now.points = λ j h. c.if-not-relax_row.ensures.test.0 refl j (omega (arith, so.same)) in (
+      through_more c.args.k c.loop-i.i first c.args.over.now _ _ so c.requires.row is _ (c.if-not-relax_row.ensures.after refl),
       long_more c.args.k c.loop-i.i first c.args.over.now _ _ so c.requires.row is c.loop-i.invariant.1 ways,
     )
 
-pub returns-then-not-relax-row : goal.returns-then-not-relax-row
+pub returns-then-not-relax_row : goal.returns-then-not-relax_row
 unfolding bounds_view
-returns-then-not-relax-row c =
+returns-then-not-relax_row c =
     let so = c.loop-i.invariant.0 in
     let first : ℤ = to_z w16 (of_z w16 (to_z w32 (of_z w32 c.entry-first.result))) in
     let is : first ≡ (bounds_view c.loop-i.self).at c.loop-i.i c.args.k = omega (arith, ints) in
@@ -41,7 +41,7 @@ returns-then-not-relax-row c =
       test = (
         λ e. absurd (false≢true e),
         λ long.
-            c.if-not-relax-row.ensures.test.1
+            c.if-not-relax_row.ensures.test.1
             (λ j h. long_row c.args.k c.loop-i.i first c.args.over.now _ _ so c.requires.row is long (omega arith) j (omega (arith, so.same))),
       );
       after = λ e. absurd (false≢true e);

@@ -12,7 +12,7 @@ loop-j-preserved c =
     let readable : SFits w16 (get_or c.args.over.now j (pos 0)) = search rules in
     let held : SFits w16 (get_or c.loop-j.row j (pos 0)) = search rules in
     relaxed_to_more first c.args.over.now j c.args.row.now c.loop-j.row _ _ c.min-least.result c.max.result c.min.result inside
-    readable held (record { sfits = c.min-least.type-inv }) (record { sfits = c.max.type-inv }) (record { sfits = c.min.type-inv })
+    readable held (record { sfits = c.min-least.type_inv }) (record { sfits = c.max.type_inv }) (record { sfits = c.min.type_inv })
     (rw same (c.requires.low j inside)) (rw same (c.requires.high j inside)) refl
     c.min-least.ensures.value c.max.ensures.value c.min.ensures.value c.loop-j.invariant
 

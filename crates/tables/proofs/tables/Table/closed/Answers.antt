@@ -28,15 +28,18 @@ loop-k-preserved c =
           subst (λ (b : Bounds). Closing t (k + 1) (bounds_view b)) (sym w.bounds-is) (closing_over t k _ so inside w.if-not-self-k.false)
     ]
 
-pub invariant-of-result : goal.invariant-of-result
-invariant-of-result c =
+pub invariant_of-result : goal.invariant_of-result
+invariant_of-result c =
     let t = c.args.self.now in
     let b = c.loop-k.bounds in
     let done : c.loop-k.k ≡ (bounds_view b).points = omega (arith, c.loop-k.invariant.relaxed.tighter.same) in
-    let so = subst (λ (q : ℕ). Closing t q (bounds_view b)) done c.loop-k.invariant in (
-      omega (arith, t.some, so.relaxed.tighter.same),
-      (all_low t b so, (all_diagonal t b so, (∣ (λ k i j h. so.below k h.1 i j h.2 h.3) ∣₁, tt))),
-    )
+    let so = subst (λ (q : ℕ). Closing t q (bounds_view b)) done c.loop-k.invariant in
+    record {
+      some = omega (arith, t.some, so.relaxed.tighter.same);
+      low = all_low t b so;
+      diagonal = all_diagonal t b so;
+      through = ∣ (λ k i j h. so.below k h.1 i j h.2 h.3) ∣₁;
+    }
 
 pub returns : goal.returns
 returns c =

@@ -15,20 +15,17 @@ unsettle-requires c =
     let long : length c.args.self.now.settled ≡ 64 = search rules in
     record { first = omega (arith, inside.0); second = omega (arith, inside.1) }
 
-pub invariant-of-self : goal.invariant-of-self
-invariant-of-self c =
+pub invariant_of-self : goal.invariant_of-self
+invariant_of-self c =
     let t = c.args.self.now in
     let m = table_view t in
     let i = c.args.i in
     let j = c.args.j in
     let v : ℤ = int_max (to_z w32 (of_z w32 c.args.v)) (negsuc 10080) in
-    let is = sym c.lower.ensures in (
-      subst (λ (x : View). 0 < x.points) is t.some,
-      (
-        subst (λ (x : View). (p q : ℕ) → negsuc 10079 ≤ℤ x.at p q) is (λ p q. lowered_by m i j v (λ p q x. negsuc 10079 ≤ℤ x) (λ hi hj. omega (arith, ints, clamps, t.low i j)) p q (t.low p q)),
-        (
-          subst (λ (x : View). (p : ℕ) → p < x.points → x.at p p ≤ℤ pos 0) is (λ p h. omega (arith, ints, (lowered_tighter m i j v).below p p h h, t.diagonal p h)),
-          (∣ subst (λ (s : List Bool). Settled s (bounds_view c.lower.new.self)) (sym c.unsettle.ensures) (subst (λ (x : View). Settled (set (set t.settled i false) j false) x) is (settled_lowered t.settled m i j v (settled_of t.settled m t.through))) ∣₁, tt),
-        ),
-      ),
-    )
+    let is = sym c.lower.ensures in
+    record {
+      some = subst (λ (x : View). 0 < x.points) is t.some;
+      low = subst (λ (x : View). (p q : ℕ) → negsuc 10079 ≤ℤ x.at p q) is (λ p q. lowered_by m i j v (λ p q x. negsuc 10079 ≤ℤ x) (λ hi hj. omega (arith, ints, clamps, t.low i j)) p q (t.low p q));
+      diagonal = subst (λ (x : View). (p : ℕ) → p < x.points → x.at p p ≤ℤ pos 0) is (λ p h. omega (arith, ints, (lowered_tighter m i j v).below p p h h, t.diagonal p h));
+      through = ∣ subst (λ (s : List Bool). Settled s (bounds_view c.lower.new.self)) (sym c.unsettle.ensures) (subst (λ (x : View). Settled (set (set t.settled i false) j false) x) is (settled_lowered t.settled m i j v (settled_of t.settled m t.through))) ∣₁;
+    }

@@ -6,4 +6,4 @@ use Rattle.tables.proofs.tables.close.settle.Goals as goal
 
 pub returns : goal.returns
 returns c =
-    settles_or_none c.args.k (bounds_view c.args.bounds.now) _ c.relax-through.result c.requires (omega (arith, ints)) c.relax-through.ensures.test c.relax-through.ensures.after
+    settles_or_none c.args.k (bounds_view c.args.bounds.now) _ c.relax_through.result c.requires (omega (arith, ints)) c.relax_through.ensures.test c.relax_through.ensures.after
