@@ -6,5 +6,5 @@ use Rattle.register.specs.Standing.{items_of}
 pub returns : goal.returns
 returns g c =
     let r = c.args.self.now in
-    let e = c.as-slice.ensures.value in
+    let e = c.as_slice.ensures.value in
     record { items = e; gathered = e ∙ sym (items (items_of r) r.rises r.low r.high) }
