@@ -2,12 +2,10 @@
 use Rattle.std.proofs.Common.{◌≡◌, ℕ, ◌+◌, ◌<◌, cond, List, [], ◌∷◌, ◌++◌, length, get_or, take, is_some, Some, None, Option, refl, ap, ◌∙◌, arith}
 use Rattle.std.proofs.lemmas.List.{take_more, take_all, length_push}
 use Rattle.std.proofs.lemmas.Bool.Decides.{nat_tests}
-use Rattle.model.specs.Closed.{SlipsHeld}
 use Rattle.model.specs.Uses.{Uses}
 use Rattle.model.specs.declared.refusals.Refusal.{Refusal}
-use Rattle.promise_laws.specs.Held.{UsesHeld}
 use Rattle.runs.specs.Held.{Held}
-use Rattle.runs.specs.Days.{Day, Takes, points, ruled, refusal, changed, step, after}
+use Rattle.runs.specs.Days.{Day, Takes, ruled, refusal, changed, step, after}
 use Rattle.runs.specs.declared.calls.Call.{Call}
 use Rattle.runs.specs.declared.calls.Call.TheVariants.{Tighten}
 

@@ -1,5 +1,5 @@
 -- The word of loose points, bit by bit.
-use Rattle.std.proofs.Common.{◌≡◌, ℕ, ◌+◌, ◌-◌, ◌*◌, ◌/◌, ◌%◌, ◌^◌, ◌<◌, ◌≤◌, Bool, true, false, cond, sym, refl, ap, ◌∙◌, subst, le_refl, arith, pow-add, below_more}
+use Rattle.std.proofs.Common.{◌≡◌, ℕ, ◌+◌, ◌-◌, ◌*◌, ◌/◌, ◌%◌, ◌^◌, ◌<◌, ◌≤◌, Bool, true, false, cond, sym, ap, ◌∙◌, subst, le_refl, arith, pow-add, below_more}
 use lib.Bits.{bit_or, or_shifted_r}
 use lib.Pow.{field, mod-mod-pow, low, high}
 use Rattle.std.proofs.lemmas.Nat.{mul-le, one_shl}

@@ -1,5 +1,5 @@
 -- What stands on a sheet, which calls are accepted, and what an accepted call changes.
-use Rattle.std.specs.Prelude.{◌≡◌, ℕ, Bool, true, false, cond, not, ◌&&◌, ◌||◌, List, [], ◌∷◌, ◌++◌, length, ℤ, pos, neg_ℤ, is_some, Some, None, codes, Option, ◌==◌, int_le, nat_le, nat_lt}
+use Rattle.std.specs.Prelude.{ℕ, Bool, false, cond, not, ◌&&◌, ◌||◌, List, [], ◌∷◌, ◌++◌, length, pos, neg_ℤ, is_some, Some, None, codes, Option, ◌==◌, int_le, nat_le, nat_lt}
 use Rattle.std.specs.Str.{bytes_eq}
 use Rattle.model.specs.Closed.{Slips}
 use Rattle.model.specs.Labels.{is_label}

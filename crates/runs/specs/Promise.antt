@@ -6,8 +6,7 @@ use Rattle.model.specs.Uses.{Uses}
 use Rattle.model.specs.declared.moments.Moment.{Moment}
 use Rattle.model.specs.declared.slips.Distance.{Distance}
 use Rattle.model.specs.declared.slips.Use.{Use}
-use Rattle.model.specs.declared.verdicts.Verdict.{Verdict}
-use Rattle.model.specs.declared.verdicts.Verdict.TheVariants.{NoPlan, Open, AnyPlan}
+use Rattle.model.specs.declared.verdicts.Verdict.TheVariants.{NoPlan, AnyPlan}
 use Rattle.runs.specs.Days.{Day, Takes, points, ruled, after}
 use Rattle.runs.specs.Runs.{SlipStands, UseStands, Settled}
 use Rattle.runs.specs.Shown.{Shown, Means, Shows, Answers, look_bound, look_levels}

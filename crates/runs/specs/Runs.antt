@@ -1,5 +1,5 @@
 -- Runs: what stands after a list of calls, told by the calls themselves.
-use Rattle.std.specs.Prelude.{◌≡◌, ℕ, ◌<◌, Bool, true, false, not, ◌||◌, List, length, take, is_some, None, slice_index_or}
+use Rattle.std.specs.Prelude.{◌≡◌, ℕ, ◌<◌, Bool, true, false, List, length, take, None, slice_index_or}
 use Rattle.model.specs.declared.slips.Distance.{Distance}
 use Rattle.model.specs.declared.slips.Use.{Use}
 use Rattle.runs.specs.Days.{Day, Takes, refusal, after}

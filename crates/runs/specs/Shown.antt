@@ -1,5 +1,5 @@
 -- What a sheet shows once it is tightened, and what it answers to looks.
-use Rattle.std.specs.Prelude.{◌≡◌, ℕ, ◌/◌, ◌%◌, ◌^◌, ◌<◌, Bool, true, false, cond, ◌&&◌, ◌⊎◌, ℤ, pos, ◌+ℤ◌, Ok, Err, Decides, Option, Result, count_ones, int_lt, nat_le, nat_lt}
+use Rattle.std.specs.Prelude.{◌≡◌, ℕ, ◌/◌, ◌%◌, ◌^◌, ◌<◌, Bool, true, false, cond, ◌&&◌, ℤ, pos, ◌+ℤ◌, Ok, Err, Decides, Option, Result, count_ones, int_lt, nat_le, nat_lt}
 use Rattle.model.specs.Closed.{NoneClosed, Tightened}
 use Rattle.model.specs.Limits.{places_of}
 use Rattle.model.specs.Meanings.{Meaning}
