@@ -1,9 +1,9 @@
 -- How the calls of a pair follow from those of the part that has the place.
-use Rattle.std.proofs.Common.{◌≡◌, ℕ, ◌+◌, ◌-◌, ◌<◌, ◌≤◌, Bool, true, false, cond, ltb, ◌⊎◌, is_some, Some, None, Decides, Option, sym, refl, ap, ◌∙◌, subst, inl, inr, ⊎_elim, arith}
-use Rattle.std.proofs.lemmas.Bool.{cond-true, cond-false, cases_lt, lt-ltb, le-ltb}
+use Rattle.std.proofs.Common.{◌≡◌, ℕ, ◌+◌, ◌-◌, ◌<◌, ◌≤◌, Bool, true, false, cond, ltb, is_some, Some, None, Decides, Option, sym, ap, ◌∙◌, ⊎_elim, arith}
+use Rattle.std.proofs.lemmas.Bool.{cases_lt, lt-ltb, le-ltb}
 use Rattle.std.proofs.lemmas.Bool.Decides.{not_from_Decides, nat_tests}
 use Rattle.model.proofs.Pairs.{put_front, put_back}
-use Rattle.model.specs.Limits.{places_of, behind, not_taken, not_given_up, of_part}
+use Rattle.model.specs.Limits.{places_of, behind, not_taken, of_part}
 use Rattle.model.specs.Uses.{Uses, put, joined}
 use Rattle.model.specs.declared.slips.Use.{Use}
 

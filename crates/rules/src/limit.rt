@@ -18,28 +18,28 @@ pub trait Limit: Rule {
 
     // How many places it has, at most 64.
     fn places(&self) -> usize
-        ensures { result ≡ places_of (width (settings self.now)) };
+        ensures { result ≡ places_of (Self.width (Self.settings self.now)) };
 
     // The most uses of a place.
     fn most_uses(&self, place: usize) -> usize
-        ensures { result ≡ most (settings self.now) place };
+        ensures { result ≡ most (Self.settings self.now) place };
 
     // Whether any use stands in it, one in a place out of reach included.
     fn any_use(&self) -> bool
-        ensures { Decides result ((place : ℕ) × (number : ℕ) × (is_some (uses self.now place number) ≡ true)) };
+        ensures { Decides result ((place : ℕ) × (number : ℕ) × (is_some (Self.uses self.now place number) ≡ true)) };
 
     // Takes a use at a place under a slip number: that use alone is added. A refusal leaves all as it was.
     fn take(&mut self, place: usize, number: u32, what: Use) -> Result<(), Refusal>
-        ensures settings { settings self.new ≡ settings self.old }
-        ensures answer { result ≡ answer (not_taken (width (settings self.old)) (most (settings self.old)) (form (settings self.old)) (uses self.old) place number what) }
-        ensures uses { uses self.new ≡ cond (is_ok result) (put (uses self.old) place number (Some what)) (uses self.old) };
+        ensures settings { Self.settings self.new ≡ Self.settings self.old }
+        ensures answer { result ≡ answer (not_taken (Self.width (Self.settings self.old)) (most (Self.settings self.old)) (form (Self.settings self.old)) (Self.uses self.old) place number what) }
+        ensures uses { Self.uses self.new ≡ cond (is_ok result) (put (Self.uses self.old) place number (Some what)) (Self.uses self.old) };
 
     // Gives up the use of that number at a place: that use alone is removed. A refusal leaves all as it was.
     fn give_up(&mut self, place: usize, number: u32) -> Result<(), Refusal>
-        ensures settings { settings self.new ≡ settings self.old }
-        ensures answer { result ≡ answer (not_given_up (width (settings self.old)) (uses self.old) place number) }
-        ensures uses { uses self.new ≡ cond (is_ok result) (put (uses self.old) place number None) (uses self.old) };
+        ensures settings { Self.settings self.new ≡ Self.settings self.old }
+        ensures answer { result ≡ answer (not_given_up (Self.width (Self.settings self.old)) (Self.uses self.old) place number) }
+        ensures uses { Self.uses self.new ≡ cond (is_ok result) (put (Self.uses self.old) place number None) (Self.uses self.old) };
 
     // No more than a place's most uses stand there.
-    ghost few: { (x : Self) (place : ℕ) → length (standing (uses x place)) ≤ most (settings x) place };
+    ghost few: { (x : Self) (place : ℕ) → length (standing (Self.uses x place)) ≤ most (Self.settings x) place };
 }

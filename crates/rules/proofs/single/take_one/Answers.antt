@@ -1,4 +1,4 @@
-use Rattle.std.proofs.Common.{◌≡◌, Some, Err, sym, ap, ◌∙◌, arith}
+use Rattle.std.proofs.Common.{Some, Err, sym, ap, ◌∙◌, arith}
 use Rattle.model.specs.Limits.{answer}
 use Rattle.model.specs.Uses.{single}
 use Rattle.register.specs.Standing.{stands}
@@ -19,6 +19,6 @@ returns-in-Err g c =
     let w = c.in-Err.ensures in
     let r = c.args.uses.now in
     record {
-      answer = ap Err c.refusal-for.ensures ∙ sym (ap answer (refused_by_register r c.args.place c.args.number c.args.what c.args.fits (omega arith) (omega arith) (omega arith) c.if-not-fits.false c.in-Err.why w.0));
+      answer = ap Err c.refusal_for.ensures ∙ sym (ap answer (refused_by_register r c.args.place c.args.number c.args.what c.args.fits (omega arith) (omega arith) (omega arith) c.if-not-fits.false c.in-Err.why w.0));
       uses = ap (λ s. single (stands s)) w.1;
     }
