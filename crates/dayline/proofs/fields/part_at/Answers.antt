@@ -4,8 +4,8 @@ use Rattle.dayline.specs.Parts.{fields_of}
 use Rattle.dayline.proofs.Pieces.{part_here}
 use Rattle.dayline.proofs.fields.part_at.Goals as goal
 
-pub returns-in-default : goal.returns-in-default
-returns-in-default c = record { bytes = sym (get_or_past (fields_of c.args.line.now) c.args.index [] c.in-default.ensures); place = λ h. absurd (omega (arith, c.in-default.ensures)) }
+pub returns-in_default : goal.returns-in_default
+returns-in_default c = record { bytes = sym (get_or_past (fields_of c.args.line.now) c.args.index [] c.in_default.ensures); place = λ h. absurd (omega (arith, c.in_default.ensures)) }
 
 pub returns-in-Some-cut : goal.returns-in-Some-cut
 returns-in-Some-cut c =

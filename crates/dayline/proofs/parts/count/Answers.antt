@@ -1,4 +1,4 @@
-use Rattle.std.proofs.Common.{◌≡◌, ◌+◌, length, get_or, drop, ap, arith}
+use Rattle.std.proofs.Common.{◌+◌, length, get_or, drop, arith}
 use Rattle.std.proofs.lemmas.List.{at_drop_more, at_drop_all}
 use Rattle.dayline.specs.Parts.{parts}
 use Rattle.dayline.proofs.Pieces.{count_here, count_other}
