@@ -17,10 +17,10 @@ pub loop-i-preserved : goal.loop-i-preserved
 loop-i-preserved c =
     let m = table_view c.args.table.now in
     let before = bounds_view c.loop-i.bounds in
-    let between = bounds_view c.lower-order.new.bounds in
-    let after = bounds_view c.lower-turns.new.bounds in
+    let between = bounds_view c.lower_order.new.bounds in
+    let after = bounds_view c.lower_turns.new.bounds in
     narrowed_more c.args.uses.now c.loop-i.i blank c.loop-i-test.true (λ us. Gives us m) (Precedence m) (gives_grows m) (bounds_view c.args.bounds.now) before after c.loop-i.invariant
-    (narrowed_then _ _ before between after c.lower-order.ensures (simp sub-zero at c.lower-turns.ensures))
+    (narrowed_then _ _ before between after c.lower_order.ensures (simp sub-zero at c.lower_turns.ensures))
 
 pub returns : goal.returns
 returns c =

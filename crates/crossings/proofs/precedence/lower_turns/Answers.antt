@@ -15,10 +15,10 @@ loop-a-preserved c =
     let m = table_view c.args.table.now in
     let b = c.args.b in
     let before = bounds_view c.loop-a.bounds in
-    let between = bounds_view c.lower-turn.new.bounds in
-    let after = bounds_view c.lower-turn-in-loop-a.new.bounds in
+    let between = bounds_view c.lower_turn.new.bounds in
+    let after = bounds_view c.lower_turn-in-loop-a.new.bounds in
     narrowed_more c.args.others.now c.loop-a.a-index blank c.loop-a-test.true (λ us. Turns m us b) (λ us a i j v. Turn m a b i j v ⊎ Turn m b a i j v) (λ i j v. some_grows (λ a. Turn m a b i j v ⊎ Turn m b a i j v)) (bounds_view c.args.bounds.now) before after c.loop-a.invariant
-    (narrowed_then _ _ before between after c.lower-turn.ensures c.lower-turn-in-loop-a.ensures)
+    (narrowed_then _ _ before between after c.lower_turn.ensures c.lower_turn-in-loop-a.ensures)
 
 pub returns : goal.returns
 returns c =
