@@ -8,5 +8,5 @@ use Rattle.weighbridge_laws.specs.Weighbridges.{Gives}
 
 pub returns : goal.returns
 returns c =
-    let all = ap uses_of c.as-slice.ensures.items ∙ sym (standing_items c.args.self.now.uses) in
-    subst (λ us. Narrowed (Gives us (table_view c.args.table.now)) (bounds_view c.args.bounds.now) (bounds_view c.lower-all.new.bounds)) all c.lower-all.ensures
+    let all = ap uses_of c.as_slice.ensures.items ∙ sym (standing_items c.args.self.now.uses) in
+    subst (λ us. Narrowed (Gives us (table_view c.args.table.now)) (bounds_view c.args.bounds.now) (bounds_view c.lower_all.new.bounds)) all c.lower_all.ensures

@@ -7,5 +7,5 @@ use Rattle.weighbridge_laws.specs.Weighbridges.{Refuses}
 
 pub returns : goal.returns
 returns c =
-    let all = ap uses_of c.as-slice.ensures.items ∙ sym (standing_items c.args.self.now.uses) in
-    subst (λ us. Decides c.any-conflict.result (Refuses us (table_view c.args.table.now))) all c.any-conflict.ensures
+    let all = ap uses_of c.as_slice.ensures.items ∙ sym (standing_items c.args.self.now.uses) in
+    subst (λ us. Decides c.any_conflict.result (Refuses us (table_view c.args.table.now))) all c.any_conflict.ensures

@@ -7,5 +7,5 @@ use Rattle.weighbridge_laws.specs.Weighbridges.{Vouches}
 
 pub returns : goal.returns
 returns c =
-    let all = ap uses_of c.as-slice.ensures.items ∙ sym (standing_items c.args.self.now.uses) in
-    subst (λ us. Decides c.all-clear.result (Vouches us (table_view c.args.table.now))) all c.all-clear.ensures
+    let all = ap uses_of c.as_slice.ensures.items ∙ sym (standing_items c.args.self.now.uses) in
+    subst (λ us. Decides c.all_clear.result (Vouches us (table_view c.args.table.now))) all c.all_clear.ensures
