@@ -1,5 +1,4 @@
 -- The refusal that a fault of a line comes to.
-use Rattle.dayline.specs.declared.fields.FieldFault.{FieldFault}
 use Rattle.dayline.specs.declared.fields.FieldFault.TheVariants as field
 use Rattle.model.specs.declared.refusals.Refusal.{Refusal}
 use Rattle.model.specs.declared.refusals.Refusal.TheVariants as refusal

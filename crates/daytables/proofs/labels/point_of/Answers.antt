@@ -1,4 +1,4 @@
-use Rattle.std.proofs.Common.{◌≡◌, ℕ, List, [], get_or, refl, Bor}
+use Rattle.std.proofs.Common.{ℕ, List, [], get_or, Bor}
 use Rattle.std.proofs.lemmas.Slice.Eq.{slice_eq-Decides}
 use Rattle.std.proofs.lemmas.List.{get_or_default}
 use Rattle.daytables.proofs.Finds.{found_none, found_more, found_here, found_nowhere}
