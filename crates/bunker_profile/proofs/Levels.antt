@@ -1,5 +1,5 @@
 -- The levels of a bunker, use by use.
-use Rattle.std.proofs.Common.{◌≡◌, ℕ, ◌+◌, ◌≤◌, Bool, true, cond, ◌&&◌, List, [], ◌∷◌, ◌++◌, take, ℤ, pos, negsuc, ◌+ℤ◌, ◌≤ℤ◌, sym, ap, ◌∙◌, subst, ap₂, arith}
+use Rattle.std.proofs.Common.{◌≡◌, ℕ, ◌+◌, Bool, true, cond, ◌&&◌, List, [], ◌∷◌, ◌++◌, take, ℤ, pos, negsuc, ◌+ℤ◌, ◌≤ℤ◌, sym, ap, ◌∙◌, subst, ap₂, arith}
 use Rattle.bunker_profile.specs.Choices.{high_of, low_of, missed}
 use Rattle.bunker_profile.specs.Stocks.{uses_of}
 use Rattle.bunker_profile.specs.declared.stocks.Stock.{Stock}
@@ -7,7 +7,7 @@ use Rattle.bunker_profile.specs.declared.options.Options.{Options}
 use Rattle.bunker_profile.proofs.Turns.{Turn, few_uses, light_use, light_front}
 use Rattle.bunker_laws.proofs.Ranges.{Among, high_within, low_within, total_high_within, total_low_within}
 use Rattle.bunker_laws.proofs.Sums.{total_le}
-use Rattle.bunker_laws.specs.Bunkers.{total, worth, can_be_active, can_be_idle, high, low, highest, lowest}
+use Rattle.bunker_laws.specs.Bunkers.{total, worth, can_be_active, can_be_idle, high, low}
 use Rattle.bunker_laws.specs.declared.settings.Settings.{Settings}
 use Rattle.model.specs.Plans.{View}
 use Rattle.model.specs.declared.moments.Moment.{Moment}

@@ -1,5 +1,5 @@
 -- Runs of minutes, joined.
-use Rattle.std.proofs.Common.{◌≡◌, ℕ, ◌+◌, ◌≤◌, Bool, true, false, not, ◌⊎◌, List, take, ℤ, pos, neg_ℤ, sym, refl, ap, ◌∙◌, subst, inl, inr, ⊎_elim, arith}
+use Rattle.std.proofs.Common.{◌≡◌, ℕ, ◌+◌, Bool, true, false, not, List, take, ℤ, pos, neg_ℤ, sym, refl, ap, ◌∙◌, subst, inl, inr, ⊎_elim, arith}
 use lib.Signed.{le_z, lt_z}
 use Rattle.bunker_profile.proofs.Turns.{Turn, in_still, in_now, each_more}
 use Rattle.bunker_profile.specs.Stretches.{RunEnds, SameAt, SameFor, Alike, Stretch}

@@ -1,5 +1,5 @@
 -- The turns of a loop over the uses of a bunker.
-use Rattle.std.proofs.Common.{◌≡◌, ℕ, ◌+◌, ◌<◌, ◌≤◌, ◌⊎◌, List, [], ◌∷◌, ◌++◌, map, length, get_or, take, pos, sym, refl, ap, ◌∙◌, subst, inl, inr, ⊎_elim, arith}
+use Rattle.std.proofs.Common.{◌≡◌, ℕ, ◌+◌, ◌<◌, ◌≤◌, ◌⊎◌, List, [], ◌∷◌, ◌++◌, map, length, get_or, take, pos, sym, ap, ◌∙◌, subst, inl, inr, ⊎_elim, arith}
 use Rattle.bunker_profile.specs.Ranges.{Light}
 use Rattle.bunker_profile.specs.Stocks.{uses_of}
 use Rattle.bunker_profile.specs.declared.stocks.Stock.{Stock}

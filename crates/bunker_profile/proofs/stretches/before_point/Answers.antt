@@ -6,4 +6,4 @@ use Rattle.tables.specs.Views.{table_view}
 
 pub returns : goal.returns
 returns c =
-    run_point (table_view c.args.table.now) c.args.p c.args.first c.args.last _ _ _ _ c.before-change-end.ensures c.before-change.ensures (omega (arith, ints)) (omega (arith, ints))
+    run_point (table_view c.args.table.now) c.args.p c.args.first c.args.last _ _ _ _ c.before_change-end.ensures c.before_change.ensures (omega (arith, ints)) (omega (arith, ints))

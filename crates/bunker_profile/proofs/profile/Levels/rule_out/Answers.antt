@@ -3,17 +3,17 @@ use Rattle.bunker_profile.proofs.Levels.{high_small, low_small, missed_if}
 use Rattle.bunker_profile.proofs.profile.Levels.rule_out.Goals as goal
 use Rattle.std.proofs.lemmas.Int.{ints}
 
-pub overflow-sub-highest : goal.overflow-sub-highest
-overflow-sub-highest c = let h = high_small c.args.options in omega (arith, ints)
+pub overflow_sub-highest : goal.overflow_sub-highest
+overflow_sub-highest c = let h = high_small c.args.options in omega (arith, ints)
 
-pub overflow-add-highest : goal.overflow-add-highest
-overflow-add-highest c = let h = high_small c.args.options in omega (arith, ints)
+pub overflow_add-highest : goal.overflow_add-highest
+overflow_add-highest c = let h = high_small c.args.options in omega (arith, ints)
 
-pub overflow-sub-lowest : goal.overflow-sub-lowest
-overflow-sub-lowest c = let h = low_small c.args.options in omega (arith, ints)
+pub overflow_sub-lowest : goal.overflow_sub-lowest
+overflow_sub-lowest c = let h = low_small c.args.options in omega (arith, ints)
 
-pub overflow-add-lowest : goal.overflow-add-lowest
-overflow-add-lowest c = let h = low_small c.args.options in omega (arith, ints)
+pub overflow_add-lowest : goal.overflow_add-lowest
+overflow_add-lowest c = let h = low_small c.args.options in omega (arith, ints)
 
 pub returns-then-undecided : goal.returns-then-undecided
 returns-then-undecided c =
