@@ -1,8 +1,8 @@
 -- Passes over the slips and over the pairs of a table, step by step.
-use Rattle.std.proofs.Common.{◌≡◌, ℕ, ◌+◌, ◌<◌, Bool, true, cond, ◌⊎◌, List, [], ◌∷◌, ◌++◌, ℤ, negsuc, ◌≤ℤ◌, sym, refl, ap, ◌∙◌, subst, inl, inr, ⊎_elim, arith}
+use Rattle.std.proofs.Common.{◌≡◌, ℕ, true, cond, List, [], ◌∷◌, ◌++◌, ℤ, negsuc, ◌≤ℤ◌, sym, ap, ◌∙◌, subst, inl, inr, ⊎_elim, arith}
 use lib.Signed.{le_z}
 use Rattle.std.proofs.lemmas.Int.{ints}
-use Rattle.std.proofs.lemmas.Bool.{cases_eq, cases_lt, cond-true}
+use Rattle.std.proofs.lemmas.Bool.{cond-true}
 use Rattle.model.proofs.Members.{in_either, in_front, in_last}
 use Rattle.model.proofs.Narrowings.{narrowed_then, narrowed_like}
 use Rattle.model.specs.Narrowings.{Narrowed}
@@ -11,7 +11,7 @@ use Rattle.model.specs.Uses.{In}
 use Rattle.model.specs.declared.slips.Distance.{Distance}
 use Rattle.tables.proofs.Narrows.{One, narrowed_one}
 use Rattle.tables.specs.Views.{lowered}
-use Rattle.tightening.specs.Asked.{Posts, RowBounds, RowsBounds}
+use Rattle.tightening.specs.Asked.{Posts}
 
 -- an entry of a table lowered to a number that a table holds
 pub lowered_table : (m x : View) (i j : ℕ) (v : ℤ) → x ≡ cond (le_z (negsuc 10079) v) (lowered m i j v) m → negsuc 10079 ≤ℤ v → Narrowed (One i j v) m x

@@ -1,15 +1,12 @@
 -- What each way out of a round shows.
-use Rattle.std.proofs.Common.{◌≡◌, ℕ, ◌<◌, ◌≤◌, ◌⊎◌, ℤ, pos, negsuc, neg_ℤ, ◌≤ℤ◌, ◌<ℤ◌, sym, refl, ap, ◌∙◌, subst, inl, inr, ⊎_elim, arith}
+use Rattle.std.proofs.Common.{◌≡◌, ℕ, ◌<◌, ◌≤◌, ◌⊎◌, negsuc, ◌<ℤ◌, refl, inl, inr, ⊎_elim, arith}
 use Rattle.std.proofs.lemmas.Int.{ints, by_lt_z}
 use Rattle.std.proofs.lemmas.Bool.{cases_lt}
-use Rattle.model.specs.Closed.{Slips, NoneClosed}
 use Rattle.model.specs.Meanings.{Meaning, Lawful, AsTight}
 use Rattle.model.specs.Narrowings.{Narrowed}
-use Rattle.model.specs.Plans.{View, Sound, Tighter}
+use Rattle.model.specs.Plans.{View, Tighter}
 use Rattle.model.specs.Uses.{Uses}
 use Rattle.promise_laws.proofs.Steps.{over_sound, none_sound, over_refused, over_bounded, over_deep_given, still_bounded}
-use Rattle.promise_laws.specs.Held.{UsesHeld}
-use Rattle.promise_laws.specs.Steps.{Over}
 use Rattle.model.proofs.Entries.{sound_low}
 use Rattle.tables.proofs.Orders.{tighter_trans}
 use Rattle.tables.proofs.Totals.{total_le, total_less}

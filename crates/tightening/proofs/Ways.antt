@@ -1,5 +1,5 @@
 -- The way from the first table to the greatest closed one.
-use Rattle.std.proofs.Common.{◌≡◌, ℕ, ◌<◌, ◌≤◌, true, eqb, ◌⊎◌, List, [], ◌∷◌, map, ℤ, pos, negsuc, ◌≤ℤ◌, ◌<ℤ◌, Some, None, sym, refl, ap, ◌∙◌, subst, inl, inr, ⊎_elim, arith}
+use Rattle.std.proofs.Common.{◌≡◌, ℕ, ◌<◌, ◌≤◌, ◌⊎◌, List, [], ◌∷◌, map, ℤ, pos, ◌≤ℤ◌, Some, sym, refl, ◌∙◌, subst, inl, inr, ⊎_elim, arith}
 use Rattle.std.proofs.lemmas.Int.{ints}
 use Rattle.std.proofs.lemmas.Bool.{cases_eq}
 use Rattle.std.proofs.lemmas.Bool.Decides.{nat_tests}
@@ -7,12 +7,12 @@ use Rattle.model.proofs.Gathers.{under_number}
 use Rattle.model.specs.Closed.{Slips, SlipsHeld, Closed, NoneClosed, Tightened}
 use Rattle.model.specs.Meanings.{Meaning}
 use Rattle.model.specs.Narrowings.{Narrowed}
-use Rattle.model.specs.Plans.{View, Sound, Tighter}
-use Rattle.model.specs.Uses.{Uses, In, standing}
+use Rattle.model.specs.Plans.{View}
+use Rattle.model.specs.Uses.{Uses, In}
 use Rattle.model.specs.declared.slips.Distance.{Distance}
 use Rattle.promise_laws.proofs.Steps.{over_start, over_lowered, fits_below, rests}
 use Rattle.promise_laws.specs.Held.{UsesHeld}
-use Rattle.promise_laws.specs.Steps.{Over, Fits}
+use Rattle.promise_laws.specs.Steps.{Over}
 use Rattle.register.proofs.Gathered.{standing_items}
 use Rattle.register.specs.Lookups.{lookup, what_of}
 use Rattle.register.specs.Standing.{items_of, stands}

@@ -19,7 +19,7 @@ pub(crate) enum Round {
 
 // Closes the table and asks the limits.
 pub(crate) fn next_round<L: Rule>(limits: &L, table: &Table) -> Round
-    ensures { Rounded (uses limits.now) (meaning (settings limits.now) (uses limits.now)) (table_view table.now) result }
+    ensures { Rounded (L.uses limits.now) (L.meaning (L.settings limits.now) (L.uses limits.now)) (table_view table.now) result }
 {
     let Some(closed) = table.closed() else {
         return Round::NoPlan;

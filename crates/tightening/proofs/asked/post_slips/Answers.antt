@@ -1,4 +1,4 @@
-use Rattle.std.proofs.Common.{◌≡◌, cond, [], ◌∷◌, ◌++◌, map, get_or, take, pos, negsuc, ◌≤ℤ◌, sym, ap, ◌∙◌, subst, arith, take_all, w32, to_z, of_z}
+use Rattle.std.proofs.Common.{◌≡◌, cond, [], ◌∷◌, get_or, take, pos, negsuc, ◌≤ℤ◌, sym, ap, ◌∙◌, subst, arith, take_all, w32, to_z, of_z}
 use mathlib.Core.List.{map-append}
 use lib.Signed.{le_z}
 use Rattle.std.proofs.lemmas.List.{take_more}

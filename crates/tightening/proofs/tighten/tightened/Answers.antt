@@ -3,10 +3,10 @@ use Rattle.tables.specs.Views.{table_view}
 use Rattle.tightening.proofs.Ways.{begun, none_known, lower_underway, rest_tightened, none_left}
 use Rattle.tightening.proofs.tighten.tightened.Goals as goal
 
-pub returns-in-default : goal.returns-in-default
-returns-in-default g c = record {
+pub returns-in_default : goal.returns-in_default
+returns-in_default g c = record {
   points = tt;
-  greatest = λ few near held known. none_known c.args.slips.now c.args.horizon c.args.points _ few near c.in-default.ensures;
+  greatest = λ few near held known. none_known c.args.slips.now c.args.horizon c.args.points _ few near c.in_default.ensures;
 }
 
 pub loop-found-init : goal.loop-found-init
