@@ -21,9 +21,10 @@ impl Bounds {
         requires { k < self.now.points }
         ensures { RowOf k (bounds_view self.now) result }
     {
-        let start = k * 64;
         let mut row = [0; 64];
-        row.copy_from_slice(&self.entries[start..start + 64]);
+        for j in 0..64 {
+            row[j] = self.entries[k * 64 + j];
+        }
         row
     }
 
