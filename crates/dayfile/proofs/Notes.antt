@@ -1,9 +1,9 @@
 -- One more line, as the lists of a reading grow.
-use Rattle.std.proofs.Common.{◌≡◌, ℕ, List, [], ◌∷◌, ◌++◌, map, Option, sym, refl, ap, ◌∙◌, Bor}
+use Rattle.std.proofs.Common.{◌≡◌, ℕ, List, [], ◌∷◌, ◌++◌, map, Option, ap, ◌∙◌, Bor}
 use Rattle.std.proofs.lemmas.List.{map_push}
 use Rattle.runs.specs.declared.calls.Call.{Call}
 use Rattle.runs.specs.declared.calls.Call.TheVariants.{Name}
-use Rattle.daytables.specs.Rows.{Entry, entry_of, naming}
+use Rattle.daytables.specs.Rows.{Entry, entry_of}
 use Rattle.daytables.specs.Tables.{names, posts}
 use Rattle.daytables.specs.declared.rows.Settings.{Settings}
 use Rattle.dayfile.specs.Reading.{Read, noted}

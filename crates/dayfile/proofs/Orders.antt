@@ -1,9 +1,9 @@
 -- The order of reading, as code parts the lines of hall.day.
-use Rattle.std.proofs.Common.{◌≡◌, ℕ, ◌+◌, ◌-◌, ◌<◌, ◌≤◌, min, Bool, true, false, cond, eqb, ltb, List, [], ◌∷◌, map, length, get_or, take, drop, Some, None, Ok, Err, Option, Result, sym, refl, ap, ◌∙◌, ⊎_elim, arith, Bor}
+use Rattle.std.proofs.Common.{◌≡◌, ℕ, ◌+◌, ◌-◌, ◌<◌, ◌≤◌, min, true, false, ltb, List, map, length, take, drop, Some, None, Ok, Option, Result, sym, refl, ap, ◌∙◌, ⊎_elim, arith, Bor}
 use Rattle.std.proofs.lemmas.List.{take_all, drop_all, take-map, drop-map, take_rest, length-take, length-map}
-use Rattle.std.proofs.lemmas.Bool.{cases_Bool, cases_lt, cond-true, cond-false, ltb-false}
+use Rattle.std.proofs.lemmas.Bool.{cases_Bool, cases_lt, cond-true, ltb-false}
 use Rattle.model.specs.declared.refusals.Refusal.{Refusal}
-use Rattle.model.specs.declared.refusals.Refusal.TheVariants.{FileTooLong, FileUnended}
+use Rattle.model.specs.declared.refusals.Refusal.TheVariants.{FileTooLong}
 use Rattle.daytables.specs.declared.due.Due.TheVariants.{FloorNames, LabelNames, PlaceNames}
 use Rattle.dayfile.specs.Files.{unreadable, or_fault, outcome}
 use Rattle.dayfile.specs.Reading.{Read, unread, read_from, go_on, read_lines}
@@ -35,7 +35,7 @@ module _ (hall : List (Bor (List ℕ))) (n : ℕ) (is : n ≡ min (length hall) 
   place_part = ap (map (λ x. x.now)) (take_rest hall n ∙ same_drop) ∙ sym (drop-map (λ x. x.now) 4 hall)
 
   floor_length : n + 1 ≡ length (take 4 (map (λ x. x.now) hall)) + 1
-  floor_length = omega (arith, length-take 4 (map (λ x. x.now) hall), length-map hall ((λ x. x.now) {X = List ℕ}))
+  floor_length = omega (arith, length-take 4 (map (λ x. x.now) hall), length-map hall (λ (x : Bor (List ℕ)). x.now))
 
   -- the three parts, one after another
   pub in_order : (bridge : List (Bor (List ℕ))) (r₀ r₁ r₂ r₃ : Read) → r₀ ≡ unread None

@@ -1,5 +1,4 @@
-use Rattle.std.proofs.Common.{◌≡◌, ◌+◌, map, drop}
-use Rattle.dayfile.specs.Reading.{read_from}
+use Rattle.std.proofs.Common.{◌≡◌, ◌+◌, drop}
 use Rattle.dayfile.specs.Views.{read_of}
 use Rattle.dayfile.proofs.LineSteps.{read_rest}
 use Rattle.dayfile.proofs.reading.Reading.read_lines.Given as goal
