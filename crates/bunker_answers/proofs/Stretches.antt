@@ -1,10 +1,10 @@
 -- What a bunker tells at minutes that are alike.
-use Rattle.std.proofs.Common.{◌≡◌, ℕ, ◌+◌, ◌<◌, ◌≤◌, true, ◌||◌, ◌⊎◌, List, ℤ, pos, negsuc, ◌+ℤ◌, ◌-ℤ◌, ◌≤ℤ◌, ◌<ℤ◌, sym, refl, ap, ◌∙◌, subst, inl, inr, ⊎_elim, arith}
+use Rattle.std.proofs.Common.{◌≡◌, ℕ, ◌+◌, ◌<◌, ◌≤◌, ◌||◌, ◌⊎◌, List, ℤ, pos, negsuc, ◌+ℤ◌, ◌-ℤ◌, ◌≤ℤ◌, ◌<ℤ◌, sym, refl, ap, ◌∙◌, subst, inl, inr, ⊎_elim, arith}
 use lib.Signed.{≤ℤ_refl}
 use Rattle.bunker_answers.specs.Following.{FollowsBefore, FollowsEnds}
 use Rattle.bunker_answers.specs.Rooms.{NoRoom, NoRoomBefore}
 use Rattle.bunker_laws.proofs.Sums.{total_same}
-use Rattle.bunker_laws.specs.Bunkers.{delivery, sure_by, sure_after, can_be_active, can_be_idle, high, low, highest, lowest, RuledOut, Follows}
+use Rattle.bunker_laws.specs.Bunkers.{delivery, can_be_active, can_be_idle, high, low, highest, lowest, RuledOut, Follows}
 use Rattle.bunker_laws.specs.declared.settings.Settings.{Settings}
 use Rattle.bunker_profile.specs.Stretches.{Alike, Stretch}
 use Rattle.model.proofs.Narrowings.{narrowed_then}

@@ -6,4 +6,4 @@ use Rattle.tables.specs.Views.{bounds_view, table_view}
 pub returns : goal.returns
 returns c =
     let b = c.args.stock.now in
-    gives_by b.settings (uses_of b) (table_view c.args.table.now) (bounds_view c.args.bounds.now) (bounds_view c.propagate-order.new.bounds) (bounds_view c.propagate-points.new.bounds) (bounds_view c.propagate-minutes.new.bounds) c.propagate-order.ensures c.propagate-points.ensures c.propagate-minutes.ensures
+    gives_by b.settings (uses_of b) (table_view c.args.table.now) (bounds_view c.args.bounds.now) (bounds_view c.propagate_order.new.bounds) (bounds_view c.propagate_points.new.bounds) (bounds_view c.propagate_minutes.new.bounds) c.propagate_order.ensures c.propagate_points.ensures c.propagate_minutes.ensures

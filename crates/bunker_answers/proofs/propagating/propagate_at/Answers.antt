@@ -12,8 +12,8 @@ use Rattle.tables.specs.Views.{bounds_view, table_view}
 pub loop-x-init : goal.loop-x-init
 loop-x-init c = narrowed_none _ (bounds_view c.args.bounds.now) (λ i j v w. w.1)
 
-pub propagate-use-requires : goal.propagate-use-requires
-propagate-use-requires c = record {
+pub propagate_use-requires : goal.propagate_use-requires
+propagate_use-requires c = record {
   day = c.requires;
   highest = c.profile-levels.ensures.highest;
   lowest = c.profile-levels.ensures.lowest;
@@ -22,13 +22,13 @@ propagate-use-requires c = record {
 pub loop-x-preserved : goal.loop-x-preserved
 loop-x-preserved c =
     let b = c.args.stock.now in
-    let xs = c.as-slice-x-items.result.now in
+    let xs = c.as_slice-x-items.result.now in
     let i = c.loop-x.x-index in
-    let t = turn b xs i c.as-slice-x-items.ensures.items c.loop-x-test.true in
-    narrowed_more (Follows b.settings (uses_of b) (table_view c.args.table.now) c.args.at) (uses_of b) i (get_or xs i blank).what (bounds_view c.args.bounds.now) (bounds_view c.loop-x.bounds) (bounds_view c.propagate-use.new.bounds) t c.loop-x.invariant c.propagate-use.ensures
+    let t = turn b xs i c.as_slice-x-items.ensures.items c.loop-x-test.true in
+    narrowed_more (Follows b.settings (uses_of b) (table_view c.args.table.now) c.args.at) (uses_of b) i (get_or xs i blank).what (bounds_view c.args.bounds.now) (bounds_view c.loop-x.bounds) (bounds_view c.propagate_use.new.bounds) t c.loop-x.invariant c.propagate_use.ensures
 
 pub returns : goal.returns
 returns c =
     let b = c.args.stock.now in
-    let all = passed b c.as-slice-x-items.result.now c.loop-x.x-index c.as-slice-x-items.ensures.items c.loop-x-test.false in
+    let all = passed b c.as_slice-x-items.result.now c.loop-x.x-index c.as_slice-x-items.ensures.items c.loop-x-test.false in
     subst (λ us. Narrowed (FollowsFor b.settings (uses_of b) (table_view c.args.table.now) us c.args.at) (bounds_view c.args.bounds.now) (bounds_view c.loop-x.bounds)) all c.loop-x.invariant

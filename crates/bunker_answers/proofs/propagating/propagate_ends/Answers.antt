@@ -9,4 +9,4 @@ pub returns : goal.returns
 returns c =
     let b = c.args.stock.now in
     let at = FollowsFor b.settings (uses_of b) (table_view c.args.table.now) (uses_of b) in
-    narrowed_then (at (Minute c.args.first)) (at (Minute c.args.last)) (bounds_view c.args.bounds.now) (bounds_view c.propagate-at.new.bounds) (bounds_view c.propagate-at-2.new.bounds) c.propagate-at.ensures c.propagate-at-2.ensures
+    narrowed_then (at (Minute c.args.first)) (at (Minute c.args.last)) (bounds_view c.args.bounds.now) (bounds_view c.propagate_at.new.bounds) (bounds_view c.propagate_at-2.new.bounds) c.propagate_at.ensures c.propagate_at-2.ensures

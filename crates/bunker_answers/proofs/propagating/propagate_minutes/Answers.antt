@@ -15,7 +15,7 @@ loop-last-preserved c =
     let b = c.args.stock.now in
     let stretch = c.in-Some.ensures in (
       omega (arith, stretch.inside),
-      narrowed_stretch b.settings (uses_of b) (table_view c.args.table.now) c.loop-last.first c.in-Some.last stretch (bounds_view c.args.bounds.now) (bounds_view c.loop-last.bounds) (bounds_view c.propagate-ends.new.bounds) c.loop-last.invariant.1 c.propagate-ends.ensures,
+      narrowed_stretch b.settings (uses_of b) (table_view c.args.table.now) c.loop-last.first c.in-Some.last stretch (bounds_view c.args.bounds.now) (bounds_view c.loop-last.bounds) (bounds_view c.propagate_ends.new.bounds) c.loop-last.invariant.1 c.propagate_ends.ensures,
     )
 
 pub returns : goal.returns

@@ -7,22 +7,22 @@ use Rattle.bunker_answers.specs.Rooms.{Reversed, SomeReversed}
 use Rattle.std.proofs.lemmas.Bool.Decides.{not_from_Decides}
 use Rattle.tables.specs.Views.{table_view}
 
-pub returns-then-is-reversed : goal.returns-then-is-reversed
-returns-then-is-reversed c =
-    let xs = c.as-slice-x-items.result.now in
+pub returns-then-is_reversed : goal.returns-then-is_reversed
+returns-then-is_reversed c =
+    let xs = c.as_slice-x-items.result.now in
     let i = c.loop-x.x-index in
-    let t = turn c.args.stock.now xs i c.as-slice-x-items.ensures.items c.loop-x-test.true in
-    decides_yes ((get_or xs i blank).what, t.here, c.is-reversed.ensures.0 c.if-is-reversed.true)
+    let t = turn c.args.stock.now xs i c.as_slice-x-items.ensures.items c.loop-x-test.true in
+    decides_yes ((get_or xs i blank).what, t.here, c.is_reversed.ensures.0 c.if-is_reversed.true)
 
 pub loop-x-preserved : goal.loop-x-preserved
 loop-x-preserved c =
     let b = c.args.stock.now in
-    let xs = c.as-slice-x-items.result.now in
+    let xs = c.as_slice-x-items.result.now in
     let i = c.loop-x.x-index in
-    let t = turn b xs i c.as-slice-x-items.ensures.items c.loop-x-test.true in
-    none_more (Reversed (table_view c.args.table.now)) (uses_of b) i (get_or xs i blank).what t c.loop-x.invariant (not_from_Decides _ c.is-reversed.ensures c.if-is-reversed.false)
+    let t = turn b xs i c.as_slice-x-items.ensures.items c.loop-x-test.true in
+    none_more (Reversed (table_view c.args.table.now)) (uses_of b) i (get_or xs i blank).what t c.loop-x.invariant (not_from_Decides _ c.is_reversed.ensures c.if-is_reversed.false)
 
 pub returns : goal.returns
 returns c =
-    let all = passed c.args.stock.now c.as-slice-x-items.result.now c.loop-x.x-index c.as-slice-x-items.ensures.items c.loop-x-test.false in
+    let all = passed c.args.stock.now c.as_slice-x-items.result.now c.loop-x.x-index c.as_slice-x-items.ensures.items c.loop-x-test.false in
     decides_no (subst (λ us. SomeReversed (table_view c.args.table.now) us → ⊥) all c.loop-x.invariant)

@@ -12,4 +12,4 @@ loop-last-preserved c =
     let m = table_view c.args.table.now in
     let first = c.loop-last.first in
     no_room_more b.settings (uses_of b) m first c.in-Some.last c.in-Some.ensures c.loop-last.invariant
-    (not_from_Decides {P = NoRoom b.settings (uses_of b) m (Minute first)} _ c.lacks-room.ensures c.if-lacks-room.false)
+    (not_from_Decides {P = NoRoom b.settings (uses_of b) m (Minute first)} _ c.lacks_room.ensures c.if-lacks_room.false)

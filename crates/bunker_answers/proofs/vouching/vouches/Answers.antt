@@ -4,12 +4,12 @@ use Rattle.bunker_profile.specs.Stocks.{uses_of}
 use Rattle.rules.proofs.Parts.{and_first, and_second}
 use Rattle.tables.specs.Views.{table_view}
 
-pub returns-then-has-order : goal.returns-then-has-order
-returns-then-has-order c =
+pub returns-then-has_order : goal.returns-then-has_order
+returns-then-has_order c =
     let b = c.args.stock.now in
-    decides_vouches b.settings (uses_of b) (table_view c.args.table.now) _ (and_second c.has-order.result c.has-room-at-points.result c.if-has-order.true c.has-order.ensures c.has-room-at-points.ensures)
+    decides_vouches b.settings (uses_of b) (table_view c.args.table.now) _ (and_second c.has_order.result c.has_room_at_points.result c.if-has_order.true c.has_order.ensures c.has_room_at_points.ensures)
 
-pub returns-else-has-order : goal.returns-else-has-order
-returns-else-has-order c =
+pub returns-else-has_order : goal.returns-else-has_order
+returns-else-has_order c =
     let b = c.args.stock.now in
-    decides_vouches b.settings (uses_of b) (table_view c.args.table.now) _ (and_first c.has-order.result c.if-has-order.false c.has-order.ensures)
+    decides_vouches b.settings (uses_of b) (table_view c.args.table.now) _ (and_first c.has_order.result c.if-has_order.false c.has_order.ensures)
