@@ -1,5 +1,5 @@
 // Each way in which a bunker refuses, vouches or bounds, on a table worked out by hand.
-use crate::tables::{closed, no_bounds, open_table, window};
+use crate::tables_asked::{closed, no_bounds, open_table, window};
 use bunker::bunkers::Bunker;
 use model::moments::Moment;
 use model::refusals::Refusal;

@@ -4,6 +4,6 @@
 #[cfg(test)]
 mod bunkers;
 #[cfg(test)]
-mod tables;
+mod tables_asked;
 #[cfg(test)]
 mod weighbridges;

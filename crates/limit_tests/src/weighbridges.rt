@@ -1,5 +1,5 @@
 // A weighbridge, alone and in a pair.
-use crate::tables::{closed, no_bounds, open_table, window};
+use crate::tables_asked::{closed, no_bounds, open_table, window};
 use bunker::bunkers::Bunker;
 use model::moments::Moment;
 use model::refusals::Refusal;

@@ -12,11 +12,11 @@ use model::slips::Distance;
 use register::registers::Register;
 use tables::tables::Table;
 
+mod closing;
 mod looking;
 mod naming;
 mod posting;
 mod ruling;
-mod tightening;
 mod withdrawing;
 
 // The most points that a sheet has.

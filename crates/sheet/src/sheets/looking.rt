@@ -5,7 +5,7 @@ ghost use Rattle.runs.specs.Days.{points};
 ghost use Rattle.runs.specs.Shown.{LookAnswer, look_bound, look_levels, is_point, in_day};
 ghost use Rattle.sheet.specs.Sheets.{day_of, shown_of};
 
-use super::tightening::{answer_for, no_plan};
+use super::closing::{answer_for, no_plan};
 use super::{Sheet, Shown};
 use model::labels::Label;
 use model::moments::Moment;

@@ -5,8 +5,8 @@ use Rattle.runs.proofs.WordBits.{no_bits, fixed_bit, loose_bit}
 use Rattle.runs.specs.Shown.{LooseWord, loose}
 use Rattle.tables.proofs.Entries.{points_few, at_low, at_high}
 use Rattle.tables.specs.Views.{table_view}
-use Rattle.sheet.proofs.sheets.tightening.loose_word.Goals as goal
-use Rattle.sheet.proofs.sheets.tightening.loose_word.Goals.{then-get-gt0, else-get-gt0}
+use Rattle.sheet.proofs.sheets.closing.loose_word.Goals as goal
+use Rattle.sheet.proofs.sheets.closing.loose_word.Goals.{then-get-gt0, else-get-gt0}
 
 above : (x : ℤ) → pos 0 <ℤ x → lt_z (pos 0) x ≡ true
 above x h = grind (arith, ints)
