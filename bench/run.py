@@ -1,12 +1,12 @@
 #!/usr/bin/env python3
 """Times the proved program against plain Rust, on full days.
 
-    rt check bench && bench/run.py
+    (cd crates/bench && rt run) && bench/run.py
 
 Makes days of 8, 16, 32 and 64 points, with 4 slips for each point, bunkers with a use for every other
 point each, and a crossing for every fourth (64 points: 256 slips, 32 and 32 uses, 16 crossings).
 Three kinds: easy (wide distances and roofs), tight (all close around one plan) and noplan (tight, with
-roofs that are too low). Compiles bench/plain.rs, runs target/bin/bench and it on the same days, in turn
+roofs that are too low). Compiles bench/plain.rs, runs crates/bench/out/bench and it on the same days, in turn
 and several times, compares their answers and prints the least time of each: one tightening, proved and
 plain, and the proved way from the files' bytes to the answer.
 """
@@ -101,7 +101,7 @@ def main():
             make_day(folders[-1], points, kind)
     plain = os.path.join(WORK, "plain")
     subprocess.run(["rustc", "-O", "-o", plain, os.path.join(TOP, "bench", "plain.rs")], check=True)
-    proved, other = least(os.path.join(TOP, "target", "bin", "bench"), folders), least(plain, folders)
+    proved, other = least(os.path.join(TOP, "crates", "bench", "out", "bench"), folders), least(plain, folders)
     print("| Day | Answer | Proved, µs | Plain Rust, µs | Ratio | Files to answer, µs |\n|---|---|---|---|---|---|")
     wrong = 0
     for d in folders:

@@ -8,7 +8,7 @@ A day is a folder with bridge.day and hall.day. With `expected`, the output has 
 for byte. A damaged variant is a day with some bytes, fields or lines changed, by a generator with a
 fixed seed; the program has to answer it as scripts/reference.py does: with a fault and status 1, or
 with the day's output and status 0. A crash, another status or more than ten seconds is an error.
-The program is target/bin/daysheet; --program PATH names another.
+The program is crates/dayplan/out/dayplan; --program PATH names another.
 """
 import argparse
 import os
@@ -140,7 +140,7 @@ def main():
     parser = argparse.ArgumentParser(description=__doc__, formatter_class=argparse.RawDescriptionHelpFormatter)
     parser.add_argument("folder")
     parser.add_argument("--damage", type=int, metavar="N")
-    parser.add_argument("--program", default="target/bin/daysheet")
+    parser.add_argument("--program", default="crates/dayplan/out/dayplan")
     args = parser.parse_args()
     program = os.path.abspath(args.program)
     total, wrong = damage(program, args.folder, args.damage) if args.damage else compare(program, args.folder)

@@ -1,7 +1,7 @@
 #!/usr/bin/env python3
 """Plants bugs, one at a time, and tells which of them the prover refuses.
 
-    rt check && scripts/plant.py [CRATE..]
+    rt all check && scripts/plant.py [CRATE..]
 
 bugs/CRATE/ has a file for each bug, in the form of a must-fail edit: the file, the text that stands there
 and the text that takes its place. The bugs are tried as must-fail edits in a copy of the repository, so the
@@ -25,8 +25,7 @@ def edits(folder):
 
 def plant(copy, crates):
     """A copy of the repository in which the bugs stand as must-fail edits."""
-    for part in ("crates", "target"):
-        shutil.copytree(os.path.join(TOP, part), os.path.join(copy, part))
+    shutil.copytree(os.path.join(TOP, "crates"), os.path.join(copy, "crates"))
     shutil.copy(os.path.join(TOP, "crates.txt"), copy)
     for folder in glob.glob(os.path.join(copy, "crates", "*", "must-fail")):
         shutil.rmtree(folder)
