@@ -6,14 +6,14 @@ use Rattle.model.specs.Limits.{at_first}
 use Rattle.model.specs.Uses.{single}
 use Rattle.register.specs.Standing.{stands}
 
-pub invariant-of-self : goal.invariant-of-self
-invariant-of-self c =
+pub invariant_of-self : goal.invariant_of-self
+invariant_of-self c =
     let b = c.args.self.now.stock in
     let before = stands b.uses in
     let place = c.args.place in
     let number = c.args.number in
     let what = c.args.what in
-    let fits = c.moves-kilos.result in
-    let light = kept Light before (stands c.take-one.new.uses) place number (Some what) (λ k u h. (b.low k u h, b.high k u h)) (is_ok c.take-one.result) c.take-one.ensures.uses
-    (λ h. formed_light what (sym c.moves-kilos.ensures ∙ taken_formed 1 (at_first 32 0) fits (single before) place number what c.take-one.result c.take-one.ensures.answer h)) in
-    ((λ k u h. (light k u h).0), ((λ k u h. (light k u h).1), tt))
+    let fits = c.moves_kilos.result in
+    let light = kept Light before (stands c.take_one.new.uses) place number (Some what) (λ k u h. (b.low k u h, b.high k u h)) (is_ok c.take_one.result) c.take_one.ensures.uses
+    (λ h. formed_light what (sym c.moves_kilos.ensures ∙ taken_formed 1 (at_first 32 0) fits (single before) place number what c.take_one.result c.take_one.ensures.answer h)) in
+    record { low = λ k u h. (light k u h).0; high = λ k u h. (light k u h).1 }
