@@ -1,5 +1,5 @@
 -- The limits of a yard: two bunkers and a weighbridge.
-use Rattle.std.specs.Prelude.{◌≡◌, ℕ, Bool}
+use Rattle.std.specs.Prelude.{◌≡◌}
 use Rattle.bunker.specs.Forms.{moves_kilos}
 use Rattle.bunker.specs.Records.{bunker_uses}
 use Rattle.bunker.specs.declared.bunkers.Bunker.{Bunker}
@@ -8,7 +8,6 @@ use Rattle.bunker_laws.specs.declared.settings.Settings.{Settings}
 use Rattle.model.specs.Limits.{at_first, of_part}
 use Rattle.model.specs.Meanings.{Meaning, both}
 use Rattle.model.specs.Uses.{Uses, none, joined, front, back}
-use Rattle.model.specs.declared.slips.Use.{Use}
 use Rattle.rules.specs.declared.pair.Pair.{Pair}
 use Rattle.runs.specs.Days.{Takes}
 use Rattle.weighbridge.specs.Bridges.{bridge_uses, crossing}
