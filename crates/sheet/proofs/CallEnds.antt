@@ -1,5 +1,5 @@
 -- How a call that changes the sheet ends.
-use Rattle.std.proofs.Common.{◌≡◌, ℕ, ◌<◌, ◌≤◌, Bool, true, false, cond, not, ◌&&◌, leb, List, map, length, is_some, Some, None, Ok, Err, vec_items, vec_len, Option, Result, Vec, sym, refl, ap, ◌∙◌, arith}
+use Rattle.std.proofs.Common.{◌≡◌, ℕ, List, map, length, is_some, Some, None, Ok, Err, vec_items, vec_len, Option, Result, Vec, sym, refl, ap, ◌∙◌, arith}
 use Rattle.std.proofs.lemmas.Bool.{cond-true, cond-false}
 use Rattle.std.proofs.lemmas.List.{length-map}
 use Rattle.std.specs.declared.alloc.Global.{Global}
@@ -9,7 +9,7 @@ use Rattle.model.specs.Uses.{Uses}
 use Rattle.model.specs.Limits.{answer}
 use Rattle.model.specs.declared.labels.Label.{Label}
 use Rattle.model.specs.declared.refusals.Refusal.{Refusal}
-use Rattle.runs.specs.Days.{Day, Takes, refusal, changed, step}
+use Rattle.runs.specs.Days.{Day, Takes, refusal, changed}
 use Rattle.runs.specs.Shown.{Shown}
 use Rattle.runs.specs.declared.calls.Call.{Call}
 use Rattle.sheet.specs.Sheets.{Changed, answer_with}

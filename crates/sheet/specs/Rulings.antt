@@ -1,5 +1,5 @@
 -- Which sheets are ruled.
-use Rattle.std.specs.Prelude.{◌≡◌, ℕ, ◌≤◌, true, ◌⊎◌, List, [], ◌∷◌, map, is_some, vec_items, vec_len, vec_capacity, Result, Vec, MatchResult}
+use Rattle.std.specs.Prelude.{◌≡◌, ℕ, ◌≤◌, true, ◌⊎◌, [], ◌∷◌, map, is_some, vec_items, vec_len, vec_capacity, Result, Vec, MatchResult}
 use Rattle.std.specs.declared.alloc.Global.{Global}
 use Rattle.model.specs.Labels.{text_of}
 use Rattle.model.specs.Uses.{Uses}

@@ -1,5 +1,5 @@
 -- The day that a sheet stands for, what it shows of it, and how its calls end.
-use Rattle.std.specs.Prelude.{◌≡◌, ℕ, cond, not, ◌&&◌, List, map, pos, neg_ℤ, is_some, Some, None, Ok, Err, vec_items, Option, Result, ◌==◌, int_le, nat_lt}
+use Rattle.std.specs.Prelude.{◌≡◌, ℕ, cond, not, ◌&&◌, map, pos, neg_ℤ, is_some, Some, None, Ok, Err, vec_items, Option, Result, ◌==◌, int_le, nat_lt}
 use Rattle.model.specs.Labels.{text_of}
 use Rattle.model.specs.Uses.{Uses}
 use Rattle.model.specs.declared.refusals.Refusal.{Refusal}

@@ -1,4 +1,4 @@
-use Rattle.std.proofs.Common.{◌≡◌, ◌<◌, ◌≤◌, Ok, sym, refl, ap, ◌∙◌, subst, ⊎_elim, arith, w32, to_z, of_z}
+use Rattle.std.proofs.Common.{◌≡◌, Ok, sym, ap, ◌∙◌, ⊎_elim, arith, w32, to_z, of_z}
 use Rattle.std.proofs.lemmas.Int.{ints}
 use Rattle.runs.specs.Shown.{read_off}
 use Rattle.sheet.specs.Sheets.{seen, shown_of}

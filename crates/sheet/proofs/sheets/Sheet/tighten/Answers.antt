@@ -1,4 +1,4 @@
-use Rattle.std.proofs.Common.{◌≡◌, sym, refl, ◌∙◌, subst, arith}
+use Rattle.std.proofs.Common.{sym, refl, ◌∙◌, subst, arith}
 use Rattle.model.specs.Closed.{SlipsHeld, NoneClosed, Tightened}
 use Rattle.promise_laws.specs.Held.{UsesHeld}
 use Rattle.register.specs.Standing.{stands}
@@ -20,7 +20,7 @@ returns-in-None g c =
     record {
       day = refl;
       shows = λ held. subst (λ k. NoneClosed x.horizon k (stands x.slips) r) n (c.in-None.ensures.greatest (omega (arith, x.few)) x.near (subst (λ k. UsesHeld k us) (sym n) held) slips);
-      answer = c.no_plan_holds.ensures 0;
+      answer = c.no_plan.ensures 0;
     }
 
 pub returns-in-Some : goal.returns-in-Some
@@ -39,5 +39,5 @@ returns-in-Some g c =
     record {
       day = refl;
       shows = λ held. (tight held, c.vouches-vouched.ensures);
-      answer = subst (λ k. Answers k (Shown.bounds m c.vouches-vouched.result) c.answer-for.result) (c.in-Some.ensures.points ∙ n) c.answer-for.ensures;
+      answer = subst (λ k. Answers k (Shown.bounds m c.vouches-vouched.result) c.answer_for.result) (c.in-Some.ensures.points ∙ n) c.answer_for.ensures;
     }

@@ -1,4 +1,4 @@
-use Rattle.std.proofs.Common.{◌≡◌, ℕ, ◌+◌, ◌<◌, true, false, ℤ, pos, ◌+ℤ◌, ◌≤ℤ◌, ◌<ℤ◌, sym, ◌∙◌, subst, arith}
+use Rattle.std.proofs.Common.{◌≡◌, ◌+◌, ◌<◌, true, false, ℤ, pos, ◌+ℤ◌, ◌≤ℤ◌, ◌<ℤ◌, sym, subst, arith}
 use lib.Signed.{lt_z}
 use Rattle.std.proofs.lemmas.Int.{ints}
 use Rattle.runs.proofs.WordBits.{no_bits, fixed_bit, loose_bit}
@@ -17,14 +17,14 @@ not_above x h = grind (arith, ints)
 pub loop-p-init : goal.loop-p-init
 loop-p-init c = no_bits (table_view c.args.table.now)
 
-pub overflow-add-get : goal.overflow-add-get
-overflow-add-get c =
+pub overflow_add-get : goal.overflow_add-get
+overflow_add-get c =
     let b = c.args.table.now.bounds in
     let p = c.loop-p.p in
     omega (arith, ints, at_low b 0 p, at_high b 0 p, at_low b p 0, at_high b p 0, c.get.ensures, c.get-in-loop-p.ensures)
 
-pub overflow-shl-word : goal.overflow-shl-word
-overflow-shl-word c = omega (arith, points_few c.args.table.now.bounds, c.points-points.ensures)
+pub overflow_shl-word : goal.overflow_shl-word
+overflow_shl-word c = omega (arith, points_few c.args.table.now.bounds, c.points-points.ensures)
 
 pub loop-p-preserved : goal.loop-p-preserved
 loop-p-preserved c =

@@ -10,14 +10,14 @@ pub returns-then-eq : goal.returns-then-eq
 returns-then-eq c =
     let text = c.args.text.now in
     let item = c.label-item.result in
-    let told = subst (λ x. Decides c.eq.result (x ≡ text)) (c.as-bytes.ensures ∙ ap text_of c.label-item.is) (slice_eq-Decides Decides-eqb c.as-bytes.result.now text c.eq.result c.eq.ensures) in
+    let told = subst (λ x. Decides c.eq.result (x ≡ text)) (c.as_bytes.ensures ∙ ap text_of c.label-item.is) (slice_eq-Decides Decides-eqb c.as_bytes.result.now text c.eq.result c.eq.ensures) in
     sym (in_use_here text c.args.labels.now c.loop-label.label-index item c.eq.result c.loop-label-test.true told c.if-eq.true)
 
 pub loop-label-preserved : goal.loop-label-preserved
 loop-label-preserved c =
     let text = c.args.text.now in
     let item = c.label-item.result in
-    let told = subst (λ x. Decides c.eq.result (x ≡ text)) (c.as-bytes.ensures ∙ ap text_of c.label-item.is) (slice_eq-Decides Decides-eqb c.as-bytes.result.now text c.eq.result c.eq.ensures) in
+    let told = subst (λ x. Decides c.eq.result (x ≡ text)) (c.as_bytes.ensures ∙ ap text_of c.label-item.is) (slice_eq-Decides Decides-eqb c.as_bytes.result.now text c.eq.result c.eq.ensures) in
     not_in_use_more text c.args.labels.now c.loop-label.label-index item c.eq.result c.loop-label-test.true c.loop-label.invariant told c.if-eq.false
 
 pub returns : goal.returns
