@@ -1,9 +1,8 @@
 -- What a call on a sheet answers, and what it leaves.
-use Rattle.std.specs.Prelude.{◌≡◌, ℕ, ◌<◌, true, false, cond, List, length, take, is_some, Some, None, Ok, Err, Option, slice_index_or}
+use Rattle.std.specs.Prelude.{◌≡◌, ℕ, ◌<◌, cond, List, length, take, is_some, Some, None, Ok, Err, Option, slice_index_or}
 use Rattle.model.specs.declared.refusals.Refusal.{Refusal}
 use Rattle.promise_laws.specs.Held.{UsesHeld}
 use Rattle.runs.specs.Days.{Day, Takes, points, refusal, step, after}
-use Rattle.runs.specs.Runs.{changes}
 use Rattle.runs.specs.Shown.{Shown, Means, Shows, Answers, look_bound, look_levels}
 use Rattle.runs.specs.declared.answers.Answer.{Answer}
 use Rattle.runs.specs.declared.calls.Call.{Call}

@@ -1,4 +1,4 @@
-use Rattle.std.proofs.Common.{◌≡◌, ◌+◌, length, take, sym, refl, ap, ◌∙◌, subst, arith, take_all}
+use Rattle.std.proofs.Common.{◌≡◌, ◌+◌, length, take, sym, ap, ◌∙◌, subst, arith, take_all}
 use Rattle.std.proofs.lemmas.List.{get_or_default}
 use Rattle.runs.specs.Days.{Takes, points, after}
 use Rattle.runs.specs.Runs.{Settled}
@@ -10,7 +10,7 @@ use Rattle.replay.proofs.playing.play.Goals as goal
 
 pub loop-i-preserved : goal.loop-i-preserved
 loop-i-preserved g c =
-    let takes : Takes g.L.Settings.Denot = record { width = g.L.Rule.width; most = g.L.Limit.most; form = g.L.Limit.form } in
+    let takes : Takes g.row.L-Settings.Denot = record { width = g.L.Rule.width; most = g.L.Limit.most; form = g.L.Limit.form } in
     let means = g.L.Rule.meaning in
     let start = day_of g.L.Rule.settings g.L.Rule.uses c.args.sheet.now in
     let now-day = day_of g.L.Rule.settings g.L.Rule.uses c.loop-i.sheet in
@@ -30,7 +30,7 @@ loop-i-preserved g c =
 
 pub returns : goal.returns
 returns g c =
-    let takes : Takes g.L.Settings.Denot = record { width = g.L.Rule.width; most = g.L.Limit.most; form = g.L.Limit.form } in
+    let takes : Takes g.row.L-Settings.Denot = record { width = g.L.Rule.width; most = g.L.Limit.most; form = g.L.Limit.form } in
     let start = day_of g.L.Rule.settings g.L.Rule.uses c.args.sheet.now in
     let calls = c.args.calls.now in
     let all : take c.loop-i.i calls ≡ calls = take_all _ _ c.loop-i-test.false in

@@ -9,7 +9,7 @@ use Rattle.replay.proofs.playing.play.Given as goal
 
 abbrev pub invariant-loop-i : goal.invariant-loop-i
 invariant-loop-i g l =
-    let takes : Takes g.L.Settings.Denot = record { width = g.L.Rule.width; most = g.L.Limit.most; form = g.L.Limit.form } in
+    let takes : Takes g.row.L-Settings.Denot = record { width = g.L.Rule.width; most = g.L.Limit.most; form = g.L.Limit.form } in
     let start = day_of g.L.Rule.settings g.L.Rule.uses l.initial.sheet in
     let now-day = day_of g.L.Rule.settings g.L.Rule.uses l.sheet in
     (now-day ≡ after takes start (take l.i l.calls))

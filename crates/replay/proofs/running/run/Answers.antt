@@ -1,4 +1,4 @@
-use Rattle.std.proofs.Common.{◌≡◌, ℕ, Some, None, Option, sym, refl, ap, ◌∙◌, subst}
+use Rattle.std.proofs.Common.{◌≡◌, ℕ, Some, None, Option, refl, ap, ◌∙◌, subst}
 use Rattle.model.specs.Uses.{Uses}
 use Rattle.model.specs.declared.slips.Use.{Use}
 use Rattle.runs.proofs.Afters.{held_ruled}
@@ -21,7 +21,7 @@ no_use us none place k = by (us place k) refl
 
 pub returns-in-Ok : goal.returns-in-Ok
 returns-in-Ok g c =
-    let takes : Takes g.L.Settings.Denot = record { width = g.L.Rule.width; most = g.L.Limit.most; form = g.L.Limit.form } in
+    let takes : Takes g.row.L-Settings.Denot = record { width = g.L.Rule.width; most = g.L.Limit.most; form = g.L.Limit.form } in
     let means = g.L.Rule.meaning in
     let s = g.L.Rule.settings c.args.limits in
     let us = g.L.Rule.uses c.args.limits in
