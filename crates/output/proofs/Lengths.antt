@@ -1,6 +1,6 @@
 -- How long the output is at the most.
-use Rattle.std.proofs.Common.{◌≡◌, ℕ, suc, ◌+◌, ◌*◌, ◌^◌, ◌<◌, ◌≤◌, List, [], ◌∷◌, ◌++◌, map, length, ℤ, pos, negsuc, ◌≤ℤ◌, codes, decimal, refl, arith}
-use lib.Signed.{mag}
+use Rattle.std.proofs.Common.{ℕ, suc, ◌*◌, ◌^◌, ◌<◌, ◌≤◌, List, [], ◌∷◌, map, length, ℤ, pos, negsuc, ◌≤ℤ◌, codes, arith}
+use Rattle.std.specs.Int.Signed.{mag}
 use Rattle.std.proofs.lemmas.Fmt.{length-decimal-le, length_signed_le}
 use Rattle.std.proofs.lemmas.List.{length-append, length-take}
 use Rattle.std.proofs.lemmas.Int.{ints}
@@ -10,7 +10,7 @@ use Rattle.model.specs.Plans.{View}
 use Rattle.model.specs.declared.labels.Label.{Label}
 use Rattle.model.specs.declared.verdicts.Verdict.{Verdict}
 use Rattle.model.specs.declared.verdicts.Verdict.TheVariants.{NoPlan, Open, AnyPlan}
-use Rattle.output.specs.Output.{line, earliest_of, latest_of, point_line, point_lines, point_table, word_of, verdict_table}
+use Rattle.output.specs.Output.{earliest_of, latest_of, point_line, point_lines, point_table, word_of, verdict_table}
 use Rattle.runs.specs.declared.answers.Answer.{Answer}
 
 -- a number from -10,081 to 10,081

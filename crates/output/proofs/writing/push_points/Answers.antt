@@ -10,11 +10,11 @@ use Rattle.texts.proofs.Cuts.{cut_nil}
 use Rattle.texts.specs.Texts.{bytes_of, cut}
 use Rattle.output.proofs.writing.push_points.Goals as goal
 
-pub returns-in-err-earliest : goal.returns-in-err-earliest
-returns-in-err-earliest g c = λ m any shown.
+pub returns-in_err-earliest : goal.returns-in_err-earliest
+returns-in_err-earliest g c = λ m any shown.
     let ls = c.labels-labels.result.now in
     let n : length ls ≡ points (day_of g.L.Rule.settings g.L.Rule.uses c.args.sheet.now) = sym (length-map ls text_of) ∙ ap length c.labels-labels.ensures in
-    absurd (ok_err c.minutes-of.result _ _ (c.minutes-of.ensures m any shown (omega arith)) c.in-err-earliest.was)
+    absurd (ok_err c.minutes_of.result _ _ (c.minutes_of.ensures m any shown (omega arith)) c.in_err-earliest.was)
 
 pub loop-point-init : goal.loop-point-init
 loop-point-init g c = λ m any shown. cut_nil c.args.text.now
@@ -24,10 +24,10 @@ loop-point-preserved g c = λ m any shown.
     let ls = c.labels-labels.result.now in
     let p = c.loop-point.point in
     let n : length ls ≡ points (day_of g.L.Rule.settings g.L.Rule.uses c.args.sheet.now) = sym (length-map ls text_of) ∙ ap length c.labels-labels.ensures in
-    let told = ok_pair c.minutes-of.result c.in-ok-earliest.earliest c.in-ok-earliest.latest (earliest_of m p) (latest_of m p) c.in-ok-earliest.was (c.minutes-of.ensures m any shown (omega arith)) in
-    let earliest-fits : to_z w32 (of_z w32 c.in-ok-earliest.earliest) ≡ c.in-ok-earliest.earliest = omega (arith, ints) in
-    let latest-fits : to_z w32 (of_z w32 c.in-ok-earliest.latest) ≡ c.in-ok-earliest.latest = omega (arith, ints) in
-    points_more m ls p c.index-labels-point.result _ _ (bytes_of c.args.text.now) _ _ c.loop-point-test.true c.index-labels-point.is (earliest-fits ∙ told.0) (latest-fits ∙ told.1) (c.loop-point.invariant m any shown) c.push-point.ensures
+    let told = ok_pair c.minutes_of.result c.in_ok-earliest.earliest c.in_ok-earliest.latest (earliest_of m p) (latest_of m p) c.in_ok-earliest.was (c.minutes_of.ensures m any shown (omega arith)) in
+    let earliest-fits : to_z w32 (of_z w32 c.in_ok-earliest.earliest) ≡ c.in_ok-earliest.earliest = omega (arith, ints) in
+    let latest-fits : to_z w32 (of_z w32 c.in_ok-earliest.latest) ≡ c.in_ok-earliest.latest = omega (arith, ints) in
+    points_more m ls p c.index-labels-point.result _ _ (bytes_of c.args.text.now) _ _ c.loop-point-test.true c.index-labels-point.is (earliest-fits ∙ told.0) (latest-fits ∙ told.1) (c.loop-point.invariant m any shown) c.push_point.ensures
 
 pub returns : goal.returns
 returns g c = λ m any shown.

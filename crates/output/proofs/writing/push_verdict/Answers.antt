@@ -6,6 +6,6 @@ use Rattle.output.proofs.writing.push_verdict.Goals as goal
 
 pub returns : goal.returns
 returns c =
-    let x = bytes_of c.push-bytes.new.self in
-    let word : bytes_of c.push-bytes-2.new.self ≡ cut (x ++ word_of c.args.answer.verdict) = c.push-bytes-2.ensures ∙ ap (λ s. cut (x ++ s)) c.word-of.ensures in
-    verdict_put (bytes_of c.args.text.now) x _ _ _ _ c.args.answer c.push-bytes.ensures word c.push.ensures c.push-unsigned.ensures c.push-2.ensures
+    let x = bytes_of c.push_bytes.new.self in
+    let word : bytes_of c.push_bytes-2.new.self ≡ cut (x ++ word_of c.args.answer.verdict) = c.push_bytes-2.ensures ∙ ap (λ s. cut (x ++ s)) c.word_of.ensures in
+    verdict_put (bytes_of c.args.text.now) x _ _ _ _ c.args.answer c.push_bytes.ensures word c.push.ensures c.push_unsigned.ensures c.push-2.ensures
