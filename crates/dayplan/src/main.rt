@@ -14,7 +14,7 @@ use std::{env, fs, io};
 
 mod words;
 
-const HELP: &str = "daysheet [FOLDER]
+const HELP: &str = "dayplan [FOLDER]
 
 Reads bridge.day and hall.day of FOLDER, or of the folder that it runs in, and
 prints the tightened day: the earliest and the latest minute of each point, the
