@@ -53,7 +53,7 @@ fn whole_output(rt: HostRuntime) -> Result<(), Fail> {
     let mut buffer = [b'#'; 90];
     assert_eq!(rt; write_day(&sheet, &mut buffer), Ok(83));
     assert_eq!(rt; &buffer[0..83], OUTPUT);
-    assert_eq!(rt; &buffer[83..90], b"#######");
+    assert_eq!(rt; &buffer[83..90], b"#######".as_slice());
     Ok(())
 }
 
@@ -69,6 +69,6 @@ fn no_plan(rt: HostRuntime) -> Result<(), Fail> {
     let _ = sheet.tighten();
     let mut buffer = [b'#'; 23];
     assert_eq!(rt; write_day(&sheet, &mut buffer), Ok(23));
-    assert_eq!(rt; &buffer[0..23], b"verdict loose\nnoplan 0\n");
+    assert_eq!(rt; &buffer[0..23], b"verdict loose\nnoplan 0\n".as_slice());
     Ok(())
 }
