@@ -6,7 +6,7 @@ use Rattle.dayfile.specs.Reading.{Read, Sound}
 use Rattle.dayfile.specs.declared.faults.Fault.{Fault}
 use Rattle.daytables.specs.declared.rows.Settings.{Settings as FloorLine}
 use Rattle.model.specs.declared.refusals.Refusal.{Refusal}
-use Rattle.planning.specs.Plans.{not_made_of, BunkerOf, Unmade, missing, improper, FirstFault, UnmadeFault}
+use Rattle.planning.specs.Plans.{not_made_of, BunkerOf, missing, improper, FirstFault, UnmadeFault}
 use Rattle.planning.specs.declared.faults.NotPlanned.{NotPlanned}
 
 -- a bunker that is made, or has no line, is not refused

@@ -1,5 +1,5 @@
 -- What is planned from two day files.
-use Rattle.std.specs.Prelude.{◌≡◌, ℕ, ◌<◌, Bool, true, cond, ◌&&◌, ◌⊎◌, List, [], ◌∷◌, ◌++◌, map, length, pos, is_some, Some, None, Ok, Err, Option, Result, int_le}
+use Rattle.std.specs.Prelude.{◌≡◌, ℕ, ◌<◌, Bool, true, cond, ◌&&◌, ◌⊎◌, List, [], ◌∷◌, ◌++◌, map, pos, is_some, Some, None, Ok, Err, Option, Result, int_le}
 use Rattle.std.specs.List.{slice_get}
 use Rattle.bunker_laws.specs.declared.settings.Settings.{Settings}
 use Rattle.dayfile.specs.Reading.{Read, reads, first_fault}

@@ -2,9 +2,9 @@ use Rattle.std.proofs.Common.{subst}
 use Rattle.planning.proofs.plans.plan_day.Goals as goal
 use Rattle.planning.specs.Plans.{PlansFor}
 
-pub plan-reading-requires : goal.plan-reading-requires
-plan-reading-requires c = c.in-Ok.ensures.sound
+pub plan_reading-requires : goal.plan_reading-requires
+plan_reading-requires c = c.in-Ok.ensures.sound
 
 pub returns-in-Ok : goal.returns-in-Ok
 returns-in-Ok c =
-    subst (λ r. PlansFor r c.args.buffer.now c.plan-reading.new.buffer c.plan-reading.result) c.in-Ok.ensures.value c.plan-reading.ensures
+    subst (λ r. PlansFor r c.args.buffer.now c.plan_reading.new.buffer c.plan_reading.result) c.in-Ok.ensures.value c.plan_reading.ensures

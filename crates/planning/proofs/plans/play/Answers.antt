@@ -1,4 +1,4 @@
-use Rattle.std.proofs.Common.{◌≡◌, true, false, is_some, sym, ap, subst, inl, inr, arith}
+use Rattle.std.proofs.Common.{◌≡◌, true, false, subst, inl, inr, arith}
 use Rattle.model.specs.Uses.{Uses, none}
 use Rattle.model.specs.declared.refusals.Refusal.{Refusal}
 use Rattle.model.specs.declared.refusals.Refusal.TheVariants.{OutOfMemory}
@@ -21,11 +21,11 @@ only_memory us why empty (inr (inr w)) = w.0
 
 pub returns-in-Ok : goal.returns-in-Ok
 returns-in-Ok c =
-    let built = c.in-ok-yard.ensures in
+    let built = c.in_ok-yard.ensures in
     let told = c.in-Ok.ensures in
     let sheet = c.in-Ok.played.sheet in
     let calls = c.args.calls.now in
-    let s = settings_of c.in-ok-yard.yard in
+    let s = settings_of c.in_ok-yard.yard in
     record {
       settings = s;
       left = built.left;
@@ -36,4 +36,4 @@ returns-in-Ok c =
     }
 
 pub returns-in-Err : goal.returns-in-Err
-returns-in-Err c = only_memory (uses_of c.in-ok-yard.yard) c.in-Err.why.refusal c.in-ok-yard.ensures.uses c.in-Err.ensures.promise.1
+returns-in-Err c = only_memory (uses_of c.in_ok-yard.yard) c.in-Err.why.refusal c.in_ok-yard.ensures.uses c.in-Err.ensures.promise.1
