@@ -20,7 +20,7 @@ use Rattle.runs.specs.declared.calls.Call.TheVariants.{Tighten}
 use Rattle.sheet.specs.Sheets.{day_of, shown_of}
 use Rattle.yard.specs.Yards.{Limits, LimitSettings, Alike, settings_of, uses_of, takes, means}
 use Rattle.planning.specs.declared.faults.NotPlanned.{NotPlanned}
-use Rattle.planning.specs.declared.faults.NotPlanned.TheVariants as not
+use Rattle.planning.specs.declared.faults.NotPlanned.TheVariants as cause
 
 -- ---- the bunkers
 
@@ -66,7 +66,7 @@ pub data Unmade (r : Read) : Type 0 where
 -- the first fault, if these refuse the bunkers
 pub record FirstFault (r : Read) (first second : Option Refusal) (e : NotPlanned) : Type 0 where
   pub fault : Fault
-  pub is : e ≡ not.Fault fault
+  pub is : e ≡ cause.Fault fault
   pub found : first_fault r first second None ≡ Some fault
 
 -- so it is where a bunker is not made
@@ -121,8 +121,8 @@ pub data Faulty (r : Read) (fault : Fault) : Type 0 where
 -- what comes of a reading and a buffer
 abbrev pub PlansFor : Read → (before after : List ℕ) → Result ℕ NotPlanned → Type 0
 PlansFor r before after (Ok n) = (d : Planned r) × (shown : Shown) × Answered r d shown × Wrote (evening d).labels shown before after (Ok n)
-PlansFor r before after (Err (not.Fault fault)) = (after ≡ before) × Faulty r fault
-PlansFor r before after (Err (not.Refused why)) =
+PlansFor r before after (Err (cause.Fault fault)) = (after ≡ before) × Faulty r fault
+PlansFor r before after (Err (cause.Refused why)) =
     (after ≡ before)
     × ((why ≡ OutOfMemory)
     ⊎ ((d : Planned r) × (shown : Shown) × Answered r d shown × (why ≡ BufferShort) × Wrote (evening d).labels shown before after (Err why)))
