@@ -23,7 +23,7 @@ use Rattle.sheet.specs.Sheets.{day_of, shown_of}
 use Rattle.yard.specs.Yards.{Limits, LimitSettings, takes, means, settings_of, uses_of}
 use Rattle.planning.specs.Plans.{Made, UnmadeFault, PlayedFor, Planned, Answered, Faulty, unmade, refused, morning, evening, PlansFor}
 use Rattle.planning.specs.declared.faults.NotPlanned.{NotPlanned}
-use Rattle.planning.specs.declared.faults.NotPlanned.TheVariants as not
+use Rattle.planning.specs.declared.faults.NotPlanned.TheVariants as cause
 
 pub unmade_end : (r : Read) (before : List ℕ) (e : NotPlanned) → UnmadeFault r e → PlansFor r before before (Err e)
 unmade_end r before e u = subst (λ x. PlansFor r before before (Err x)) (sym u.first.is) (refl, unmade u.unmade u.first.found)
@@ -105,7 +105,7 @@ module _ (r : Read) (first second : Settings) (made : Made r (first, second)) (c
   pub written : (n : ℕ) (before behind : List ℕ) → Sound r → first_fault r None None x.told.refused ≡ None → Wrote (day_of settings_of uses_of x.sheet).labels (shown_of x.sheet) before behind (Ok n) → PlansFor r before behind (Ok n)
   written n before behind sound e w = (planned, shown_of x.sheet, answered sound e, subst (λ ls. Wrote ls (shown_of x.sheet) before behind (Ok n)) labelled w)
 
-  pub unwritten : (why : Refusal) (before behind : List ℕ) → Sound r → first_fault r None None x.told.refused ≡ None → Wrote (day_of settings_of uses_of x.sheet).labels (shown_of x.sheet) before behind (Err why) → PlansFor r before behind (Err (not.Refused why))
+  pub unwritten : (why : Refusal) (before behind : List ℕ) → Sound r → first_fault r None None x.told.refused ≡ None → Wrote (day_of settings_of uses_of x.sheet).labels (shown_of x.sheet) before behind (Err why) → PlansFor r before behind (Err (cause.Refused why))
   unwritten why before behind sound e w = (w.0, inr (planned, shown_of x.sheet, answered sound e, short w.1, subst (λ ls. Wrote ls (shown_of x.sheet) before behind (Err why)) labelled w))
     where
       short : ((why ≡ NotTightened) × (shown_of x.sheet ≡ Shown.nothing)) ⊎ ((why ≡ BufferShort) × ((out : List ℕ) × IsOutput (day_of settings_of uses_of x.sheet).labels (shown_of x.sheet) out × (length before < length out))) → why ≡ BufferShort
