@@ -50,6 +50,6 @@ impl Rule for Bunker {
             return None;
         }
         let levels = self.stock.profile(table, at);
-        Some((levels.highest as i32, levels.lowest as i32))
+        Some((levels.highest, levels.lowest))
     }
 }

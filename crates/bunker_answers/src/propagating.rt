@@ -4,6 +4,7 @@ ghost use Rattle.bunker_laws.specs.Bunkers.{ByBound, AfterBound, Follows, Gives,
 ghost use Rattle.bunker_answers.specs.Following.{InDay, ActiveBounds, IdleBounds, OrderBound, OrderBounds, FollowsFor, FollowsBefore, FollowsEnds, FollowsPoints};
 ghost use Rattle.bunker_profile.specs.Stocks.{uses_of};
 ghost use Rattle.model.specs.Narrowings.{Narrowed};
+ghost use Rattle.model.specs.Uses.{In};
 ghost use Rattle.tables.specs.Views.{bounds_view, table_view};
 
 use bunker_profile::moments::{sure_after, sure_by};
@@ -81,6 +82,7 @@ fn propagate_use(
     bounds: &mut Bounds,
 )
     requires day { InDay at }
+    requires stands { In what (uses_of stock.now) }
     requires highest { levels.highest ≡ highest stock.now.settings (uses_of stock.now) (table_view table.now) at }
     requires lowest { levels.lowest ≡ lowest stock.now.settings (uses_of stock.now) (table_view table.now) at }
     ensures { Narrowed (Follows stock.now.settings (uses_of stock.now) (table_view table.now) at what) (bounds_view bounds.old) (bounds_view bounds.new) }

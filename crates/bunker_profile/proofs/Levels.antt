@@ -1,6 +1,7 @@
 -- The levels of a bunker, use by use.
 use Rattle.std.proofs.Common.{◌≡◌, ℕ, ◌+◌, Bool, true, cond, ◌&&◌, List, [], ◌∷◌, ◌++◌, take, ℤ, pos, negsuc, ◌+ℤ◌, ◌≤ℤ◌, sym, ap, ◌∙◌, subst, ap₂, arith}
 use Rattle.bunker_profile.specs.Choices.{high_of, low_of, missed}
+use Rattle.bunker_profile.specs.Ranges.{Small}
 use Rattle.bunker_profile.specs.Stocks.{uses_of}
 use Rattle.bunker_profile.specs.declared.stocks.Stock.{Stock}
 use Rattle.bunker_profile.specs.declared.options.Options.{Options}
@@ -19,11 +20,11 @@ total_push : (f : Use → ℤ) (us : List Use) (u : Use) → total f (us ++ u �
 total_push f [] u = omega (arith, ints)
 total_push f (v ∷ us) u = let e = total_push f us u in omega (arith, ints)
 
--- the options of a use are worth no more than its kilos, either way
-pub high_small : (o : Options) → Among 2147483648 (high_of o)
+-- the options of a use are worth at most a million, either way
+pub high_small : (o : Options) → Small (high_of o)
 high_small o = (grind (arith, ints), grind (arith, ints))
 
-pub low_small : (o : Options) → Among 2147483648 (low_of o)
+pub low_small : (o : Options) → Small (low_of o)
 low_small o = (grind (arith, ints), grind (arith, ints))
 
 pub missed_if : (s : Settings) (b r : Bool) (h h' l l' : ℤ) → b ≡ true → r ≡ missed s h l → h ≡ h' → l ≡ l' → r ≡ (b && missed s h' l')

@@ -1,6 +1,7 @@
 // The options of a use at a moment.
 ghost use Rattle.std.specs.Prelude.{◌≡◌, ◌&&◌, pos, negsuc, ◌≤ℤ◌};
 ghost use Rattle.bunker_laws.specs.Bunkers.{delivery, worth as worthOf, can_be_active, can_be_idle};
+ghost use Rattle.bunker_profile.specs.Ranges.{Small, Light};
 ghost use Rattle.tables.specs.Views.{table_view};
 
 use crate::moments::{sure_after, sure_by};
@@ -18,28 +19,32 @@ pub fn is_delivery(what: Use) -> bool
 }
 
 // What the use is worth while it is active.
-fn worth(what: Use) -> i64
+fn worth(what: Use) -> i32
+    requires { Light what }
     ensures value { result ≡ worthOf what }
-    ensures light { negsuc 2147483647 ≤ℤ result }
-    ensures heavy { result ≤ℤ pos 2147483648 }
+    ensures small { Small result }
 {
-    let kilos = i64::from(what.kilos);
-    if is_delivery(what) { kilos } else { -kilos }
+    if is_delivery(what) {
+        what.kilos
+    } else {
+        -what.kilos
+    }
 }
 
 // Which options a use has left, active for its worth or idle for nothing.
 #[derive(Clone, Copy)]
 pub struct Options {
-    pub worth: i64,
+    pub worth: i32,
     pub active: bool,
     pub idle: bool,
-    ghost light: { negsuc 2147483647 ≤ℤ worth },
-    ghost heavy: { worth ≤ℤ pos 2147483648 },
+    ghost light: { negsuc 999999 ≤ℤ worth },
+    ghost heavy: { worth ≤ℤ pos 1000000 },
 }
 
 impl Options {
     // What the table leaves open to the use at a moment.
     pub fn new(table: &Table, at: Moment, what: Use) -> Options
+        requires { Light what }
         ensures worth { result.worth ≡ worthOf what }
         ensures active { result.active ≡ can_be_active (table_view table.now) at what }
         ensures idle { result.idle ≡ can_be_idle (table_view table.now) at what }

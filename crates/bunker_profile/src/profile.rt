@@ -2,6 +2,7 @@
 ghost use Rattle.std.specs.Prelude.{◌≡◌, pos, negsuc, ◌≤ℤ◌};
 ghost use Rattle.bunker_laws.specs.Bunkers.{highest, lowest};
 ghost use Rattle.bunker_profile.specs.Choices.{missed, within, ruled_out};
+ghost use Rattle.bunker_profile.specs.Ranges.{Small};
 ghost use Rattle.bunker_profile.specs.Stocks.{uses_of};
 ghost use Rattle.tables.specs.Views.{table_view};
 
@@ -14,18 +15,18 @@ use tables::tables::Table;
 // The highest and the lowest level among the options that are open.
 #[derive(Clone, Copy)]
 pub struct Levels {
-    pub highest: i64,
-    pub lowest: i64,
+    pub highest: i32,
+    pub lowest: i32,
     ghost deep: { negsuc 31999999 ≤ℤ lowest },
     ghost order: { lowest ≤ℤ highest },
     ghost tall: { highest ≤ℤ pos 132000000 },
 }
 
 // Whether no level from the lowest to the highest lies between floor and roof.
-fn misses(settings: Settings, highest: i64, lowest: i64) -> bool
+fn misses(settings: Settings, highest: i32, lowest: i32) -> bool
     ensures { result ≡ missed settings highest lowest }
 {
-    highest < i64::from(settings.floor) || lowest > i64::from(settings.roof)
+    highest < settings.floor || lowest > settings.roof
 }
 
 impl Levels {
@@ -40,14 +41,13 @@ impl Levels {
     pub fn fit(self, settings: Settings) -> bool
         ensures { result ≡ within settings self.highest self.lowest }
     {
-        self.lowest >= i64::from(settings.floor) && self.highest <= i64::from(settings.roof)
+        self.lowest >= settings.floor && self.highest <= settings.roof
     }
 
     // Whether an option of a use is ruled out: both are open, and were the use worth so much, none of the levels would
     // lie there.
-    fn rule_out(self, settings: Settings, options: Options, worth: i64) -> bool
-        requires light { negsuc 2147483647 ≤ℤ worth }
-        requires heavy { worth ≤ℤ pos 2147483648 }
+    fn rule_out(self, settings: Settings, options: Options, worth: i32) -> bool
+        requires { Small worth }
         ensures { result ≡ ruled_out settings options self.highest self.lowest worth }
     {
         let highest = self.highest - options.high() + worth;
@@ -76,8 +76,8 @@ impl Stock {
         ensures highest { result.highest ≡ highest self.now.settings (uses_of self.now) (table_view table.now) at }
         ensures lowest { result.lowest ≡ lowest self.now.settings (uses_of self.now) (table_view table.now) at }
     {
-        let mut highest = i64::from(self.settings.start);
-        let mut lowest = highest;
+        let mut highest = self.settings.start;
+        let mut lowest = self.settings.start;
         for x in self.uses.as_slice() {
             let options = Options::new(table, at, x.what);
             highest += options.high();

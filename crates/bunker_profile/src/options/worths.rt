@@ -6,7 +6,7 @@ use super::Options;
 
 impl Options {
     // The largest worth among the options, or 0.
-    pub(crate) fn high(self) -> i64
+    pub(crate) fn high(self) -> i32
         ensures { result ≡ high_of self }
     {
         match (self.active, self.idle) {
@@ -17,7 +17,7 @@ impl Options {
     }
 
     // The smallest.
-    pub(crate) fn low(self) -> i64
+    pub(crate) fn low(self) -> i32
         ensures { result ≡ low_of self }
     {
         match (self.active, self.idle) {

@@ -15,6 +15,7 @@ loop-x-init c = narrowed_none _ (bounds_view c.args.bounds.now) (λ i j v w. w.1
 pub propagate_use-requires : goal.propagate_use-requires
 propagate_use-requires c = record {
   day = c.requires;
+  stands = (turn c.args.stock.now c.as_slice-x-items.result.now c.loop-x.x-index c.as_slice-x-items.ensures.items c.loop-x-test.true).here;
   highest = c.profile-levels.ensures.highest;
   lowest = c.profile-levels.ensures.lowest;
 }

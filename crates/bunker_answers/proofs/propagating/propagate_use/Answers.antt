@@ -1,6 +1,7 @@
 use Rattle.std.proofs.Common.{pos, Decides, sym, refl, ap, subst, arith}
 use Rattle.bunker_answers.proofs.Rooms.{ruled_out_holds}
 use Rattle.bunker_answers.proofs.Steps.{narrowed_if, follows_by}
+use Rattle.bunker_profile.proofs.Turns.{light_use}
 use Rattle.bunker_answers.proofs.propagating.propagate_use.Goals as goal
 use Rattle.bunker_answers.proofs.propagating.propagate_use.Goals.{Joined-rule_out_idle, After-rule_out_active, then-rule_out_idle, else-rule_out_idle}
 use Rattle.bunker_answers.specs.Following.{ActiveBounds, IdleBounds}
@@ -10,6 +11,9 @@ use Rattle.model.specs.Narrowings.{Narrowed}
 use Rattle.std.proofs.lemmas.Int.{ints}
 use Rattle.std.proofs.lemmas.Bool.{both_ways}
 use Rattle.tables.specs.Views.{bounds_view, table_view}
+
+pub new-options-requires : goal.new-options-requires
+new-options-requires c = light_use c.args.stock.now c.args.what c.requires.stands
 
 -- the first test, with the step that it leads to
 if_not_idle : (c : Joined-rule_out_idle) → Narrowed (λ i j v. RuledOut c.args.stock.now.settings (uses_of c.args.stock.now) (table_view c.args.table.now) c.args.at c.args.what (pos 0) × ActiveBounds c.args.at c.args.what i j v) (bounds_view c.args.bounds.now) (bounds_view c.if-rule_out_idle.bounds)

@@ -1,6 +1,6 @@
 use Rattle.std.proofs.Common.{get_or, ap, ◌∙◌, arith}
 use Rattle.bunker_profile.proofs.Levels.{front_levels, adds_high, adds_low}
-use Rattle.bunker_profile.proofs.Turns.{blank, turn, passed}
+use Rattle.bunker_profile.proofs.Turns.{blank, turn, passed, light_use}
 use Rattle.bunker_profile.proofs.stocks.Stock.profile.Goals as goal
 use Rattle.bunker_laws.specs.Bunkers.{highest, lowest}
 use Rattle.std.proofs.lemmas.Int.{ints}
@@ -8,6 +8,11 @@ use Rattle.tables.specs.Views.{table_view}
 
 pub loop-x-init : goal.loop-x-init
 loop-x-init c = (omega (arith, ints), omega (arith, ints))
+
+pub new-options-requires : goal.new-options-requires
+new-options-requires c =
+    let b = c.args.self.now in
+    light_use b _ (turn b c.as_slice-x-items.result.now c.loop-x.x-index c.as_slice-x-items.ensures.items c.loop-x-test.true).here
 
 pub overflow_add-highest : goal.overflow_add-highest
 overflow_add-highest c =
