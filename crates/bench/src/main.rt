@@ -8,7 +8,6 @@ use dayfile::reading::read_day;
 use daytables::rows::Settings as FloorLine;
 use model::verdicts::Verdict;
 use planning::plans::plan_day;
-use replay::playing::apply;
 use rules::limit::Limit;
 use rules::rule::Rule;
 use runs::answers::Answer;
@@ -52,7 +51,7 @@ fn posted<'a>(rt: &HostRuntime, bridge: &'a [u8], hall: &'a [u8]) -> anyhow::Res
     }
     let mut sheet = ruled(rt, lines[0], lines[1])?;
     for call in reading.calls.as_slice() {
-        let _ = apply(&mut sheet, *call);
+        let _ = sheet.apply(*call);
     }
     Ok(sheet)
 }

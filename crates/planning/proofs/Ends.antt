@@ -11,15 +11,15 @@ use Rattle.model.specs.Uses.{none as none'}
 use Rattle.model.specs.declared.refusals.Refusal.{Refusal}
 use Rattle.model.specs.declared.refusals.Refusal.TheVariants.{NotTightened, BufferShort}
 use Rattle.output.specs.Written.{IsOutput, Wrote}
-use Rattle.replay.specs.Replies.{FirstRefused}
-use Rattle.replay.specs.declared.running.Played.{Played}
 use Rattle.runs.specs.Days.{refusal, after}
 use Rattle.runs.specs.Promise.{Promise}
 use Rattle.runs.specs.Runs.{Settled}
 use Rattle.runs.specs.Shown.{Shown, Shows}
 use Rattle.runs.specs.declared.calls.Call.{Call}
 use Rattle.runs.specs.declared.calls.Call.TheVariants.{Tighten}
+use Rattle.sheet.specs.Replies.{FirstRefused}
 use Rattle.sheet.specs.Sheets.{day_of, shown_of}
+use Rattle.sheet.specs.declared.running.Played.{Played}
 use Rattle.yard.specs.Yards.{Limits, LimitSettings, takes, means, settings_of, uses_of}
 use Rattle.planning.specs.Plans.{Made, UnmadeFault, PlayedFor, Planned, Answered, Faulty, unmade, refused, morning, evening, PlansFor}
 use Rattle.planning.specs.declared.faults.NotPlanned.{NotPlanned}

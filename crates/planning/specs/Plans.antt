@@ -10,14 +10,14 @@ use Rattle.model.specs.Uses.{none}
 use Rattle.model.specs.declared.refusals.Refusal.{Refusal}
 use Rattle.model.specs.declared.refusals.Refusal.TheVariants.{BadSettings, OutOfMemory, BufferShort}
 use Rattle.output.specs.Written.{Wrote}
-use Rattle.replay.specs.Replies.{FirstRefused}
-use Rattle.replay.specs.declared.running.Played.{Played}
 use Rattle.runs.specs.Days.{Day, ruled, after}
 use Rattle.runs.specs.Promise.{Promise}
 use Rattle.runs.specs.Shown.{Shown, Shows}
 use Rattle.runs.specs.declared.calls.Call.{Call}
 use Rattle.runs.specs.declared.calls.Call.TheVariants.{Tighten}
+use Rattle.sheet.specs.Replies.{FirstRefused}
 use Rattle.sheet.specs.Sheets.{day_of, shown_of}
+use Rattle.sheet.specs.declared.running.Played.{Played}
 use Rattle.yard.specs.Yards.{Limits, LimitSettings, Alike, settings_of, uses_of, takes, means}
 use Rattle.planning.specs.declared.faults.NotPlanned.{NotPlanned}
 use Rattle.planning.specs.declared.faults.NotPlanned.TheVariants as cause

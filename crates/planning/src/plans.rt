@@ -12,10 +12,10 @@ use bunker_laws::settings::Settings;
 use dayfile::reading::{Reading, read_day};
 use model::refusals::Refusal;
 use output::writing::write_day;
-use replay::running::{Played, run};
 use rules::limit::Limit;
 use rules::rule::Rule;
 use runs::calls::Call;
+use sheet::running::{Played, run};
 use std::alloc::Global;
 use yard::yards::{Yard, build_yard};
 

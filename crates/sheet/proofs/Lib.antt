@@ -1,5 +1,6 @@
 mod CallEnds
 mod LabelLists
 mod Looks
+mod Plays
 mod Postings
 mod Tables

@@ -1,2 +1,3 @@
+pub mod Replies
 pub mod Rulings
 pub mod Sheets

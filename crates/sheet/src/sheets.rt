@@ -15,6 +15,7 @@ use tables::tables::Table;
 mod closing;
 mod looking;
 mod naming;
+mod playing;
 mod posting;
 mod ruling;
 mod withdrawing;

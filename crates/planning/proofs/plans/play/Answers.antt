@@ -2,9 +2,9 @@ use Rattle.std.proofs.Common.{◌≡◌, true, false, subst, inl, inr, arith}
 use Rattle.model.specs.Uses.{Uses, none}
 use Rattle.model.specs.declared.refusals.Refusal.{Refusal}
 use Rattle.model.specs.declared.refusals.Refusal.TheVariants.{OutOfMemory}
-use Rattle.replay.specs.Replies.{FirstRefused}
 use Rattle.runs.specs.Days.{ruled, after}
 use Rattle.runs.specs.Promise.{Promise}
+use Rattle.sheet.specs.Replies.{FirstRefused}
 use Rattle.sheet.specs.Rulings.{SomeUse, NotRuledFor}
 use Rattle.sheet.specs.Sheets.{day_of, shown_of}
 use Rattle.yard.specs.Yards.{settings_of, uses_of, takes, means}

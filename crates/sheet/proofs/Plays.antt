@@ -12,10 +12,10 @@ use Rattle.runs.specs.Shown.{Shown, Means, Shows}
 use Rattle.runs.specs.declared.answers.Answer.{Answer}
 use Rattle.runs.specs.declared.calls.Call.{Call}
 use Rattle.runs.specs.declared.calls.Call.TheVariants.{Name, PostDistance, PostUse, WithdrawDistance, WithdrawUse, Tighten, LookBound, LookLevels}
-use Rattle.replay.specs.Replies.{refusal_of, answer_of, Replies, ShowsThen, Applied, FirstBefore, AnsweredFor, earlier_of, later_of}
+use Rattle.sheet.specs.Replies.{refusal_of, answer_of, Replies, ShowsThen, Applied, FirstBefore, AnsweredFor, earlier_of, later_of}
 use Rattle.sheet.specs.Sheets.{answer_with}
-use Rattle.replay.specs.declared.replies.Reply.{Reply}
-use Rattle.replay.specs.declared.replies.Reply.TheVariants.{Named, Changed}
+use Rattle.sheet.specs.declared.replies.Reply.{Reply}
+use Rattle.sheet.specs.declared.replies.Reply.TheVariants.{Named, Changed}
 
 -- ---- what was refused
 

@@ -1,6 +1,6 @@
 // What the calls on a sheet answer, as values.
 ghost use Rattle.std.specs.Prelude.{◌≡◌};
-ghost use Rattle.replay.specs.Replies.{refusal_of, answer_of};
+ghost use Rattle.sheet.specs.Replies.{refusal_of, answer_of};
 
 use model::refusals::Refusal;
 use runs::answers::Answer;

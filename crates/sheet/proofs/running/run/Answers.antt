@@ -7,10 +7,10 @@ use Rattle.runs.specs.Days.{Takes, points, ruled, after}
 use Rattle.runs.specs.Held.{Held}
 use Rattle.runs.specs.Runs.{Settled}
 use Rattle.runs.specs.Shown.{Shows}
-use Rattle.replay.specs.Replies.{FirstRefused, AnsweredFor}
+use Rattle.sheet.specs.Replies.{FirstRefused, AnsweredFor}
 use Rattle.sheet.specs.Rulings.{SomeUse}
 use Rattle.sheet.specs.Sheets.{day_of, shown_of}
-use Rattle.replay.proofs.running.run.Goals as goal
+use Rattle.sheet.proofs.running.run.Goals as goal
 
 no_use : (us : Uses) → (SomeUse us → ⊥) → (place k : ℕ) → us place k ≡ None
 no_use us none place k = by (us place k) refl
@@ -30,8 +30,8 @@ returns-in-Ok g c =
     let w = c.in-Ok.ensures in
     let first : day_of g.L.Rule.settings g.L.Rule.uses c.in-Ok.sheet ≡ ruled h s us = w.2 in
     let none = no_use us w.1 in
-    let end = day_of g.L.Rule.settings g.L.Rule.uses c.play-told.new.sheet in
-    let shown = shown_of c.play-told.new.sheet in
+    let end = day_of g.L.Rule.settings g.L.Rule.uses c.play-told.new.self in
+    let shown = shown_of c.play-told.new.self in
     let day : end ≡ after takes (ruled h s us) calls = c.play-told.ensures.day ∙ ap (λ d. after takes d calls) first in
     let shows : Settled takes (ruled h s us) calls → Shows means (after takes (ruled h s us) calls) shown =
     λ settled. subst (λ e. Shows means e shown) day

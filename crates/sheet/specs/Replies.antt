@@ -8,8 +8,8 @@ use Rattle.runs.specs.declared.answers.Answer.{Answer}
 use Rattle.runs.specs.declared.calls.Call.{Call}
 use Rattle.runs.specs.declared.calls.Call.TheVariants.{Name, PostDistance, PostUse, WithdrawDistance, WithdrawUse, Tighten, LookBound, LookLevels}
 use Rattle.sheet.specs.Sheets.{answer_with}
-use Rattle.replay.specs.declared.replies.Reply.{Reply}
-use Rattle.replay.specs.declared.replies.Reply.TheVariants.{Named, Changed, Tightened, Bound, Levels}
+use Rattle.sheet.specs.declared.replies.Reply.{Reply}
+use Rattle.sheet.specs.declared.replies.Reply.TheVariants.{Named, Changed, Tightened, Bound, Levels}
 
 -- why a naming, a posting or a withdrawal was refused
 abbrev pub refusal_of : Reply → Option Refusal

@@ -3,16 +3,15 @@ ghost use Rattle.std.specs.Prelude.{◌≡◌, IfOk, MatchResult};
 ghost use Rattle.runs.specs.Days.{ruled, after, points};
 ghost use Rattle.runs.specs.Promise.{Promise};
 ghost use Rattle.runs.specs.Runs.{Settled};
-ghost use Rattle.replay.specs.Replies.{FirstRefused, AnsweredFor};
+ghost use Rattle.sheet.specs.Replies.{FirstRefused, AnsweredFor};
 ghost use Rattle.sheet.specs.Rulings.{NotRuledFor};
 ghost use Rattle.sheet.specs.Sheets.{day_of, shown_of};
 
-use crate::playing::play;
 use crate::replies::Told;
+use crate::sheets::{NotRuled, Sheet};
 use rules::limit::Limit;
 use rules::rule::Rule;
 use runs::calls::Call;
-use sheet::sheets::{NotRuled, Sheet};
 use std::alloc::Global;
 
 // The sheet after a run, and what is told of its calls.
@@ -37,7 +36,7 @@ pub fn run<L: Limit>(
 {
     match Sheet::rule(heap, limits, horizon) {
         Ok(mut sheet) => {
-            let told = play(&mut sheet, calls);
+            let told = sheet.play(calls);
             Ok(Played { sheet, told })
         }
         Err(why) => Err(why),
