@@ -1,8 +1,8 @@
 #!/usr/bin/env python3
 """Turns the names of goals and places in a crate's proof files to what the kit calls them.
 
-usage: rt check --generated /tmp/names --old-names in the crate's folder, and then
-       python3 tools/respell_goals.py crates/NAME /tmp/names/names.json
+usage: rt check --generated FOLDER --old-names in the folder of the crate, and then
+       python3 tools/respell_goals.py crates/NAME FOLDER/names.json
 A name that differs from just one of the kit's by dashes and underscores alone is turned. It prints the names that it knows not.
 """
 
