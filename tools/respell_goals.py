@@ -3,7 +3,7 @@
 
 usage: rt check --generated FOLDER --old-names in the folder of the crate, and then
        python3 tools/respell_goals.py crates/NAME FOLDER/names.json
-A name that differs from just one of the kit's by dashes and underscores alone is turned. It prints the names that it knows not.
+A name that differs from just one of the kit's by dashes and underscores alone is turned. It prints the files that it changed.
 """
 
 import json
@@ -33,17 +33,11 @@ def main():
     crate, names = sys.argv[1], sys.argv[2]
     with open(names, encoding="utf-8") as f:
         known = json.load(f)
-    name = os.path.basename(os.path.normpath(crate))
     for path, table in known.items():
         if not path.startswith("Rattle-") or not path.endswith(".Lts"):
             continue
         where = path.split("-proofs.", 1)[1][: -len(".Lts")].replace(".", "/")
-        new = set()
-        exact = {}
-        for old, now in table["needs"]:
-            exact[old] = now
-            new.add(now)
-        words({k: v for k, v in table.items()}, new)
+        new = words(table, {now for _, now in table["needs"]})
         for place in table["places"]:
             words([place[2], place[4]], new)
         for old, now in table["asked_at"]:
