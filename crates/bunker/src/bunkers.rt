@@ -1,4 +1,5 @@
 // The bunker itself. What is done with it stands in the other modules.
+pub use bunker_profile::stocks::MOST_USES;
 use bunker_profile::stocks::Stock;
 
 mod making;

@@ -4,8 +4,7 @@ ghost use Rattle.bunker.specs.Forms.{moves_kilos};
 ghost use Rattle.model.specs.Limits.{at_first};
 ghost use Rattle.rules.proofs.Singles.{few_single};
 
-use crate::bunkers::Bunker;
-use bunker_profile::stocks::MOST_USES;
+use crate::bunkers::{Bunker, MOST_USES};
 use model::refusals::Refusal;
 use model::slips::Use;
 use rules::limit::Limit;

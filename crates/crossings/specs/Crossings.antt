@@ -46,10 +46,6 @@ Turn m a b i j c = Early m a b × (i ≡ a.first) × (j ≡ b.last) × (c ≡ po
 abbrev pub Turns : View → List Use → Use → ℕ → ℕ → ℤ → Type 0
 Turns m us b i j c = (a : Use) × In a us × (Turn m a b i j c ⊎ Turn m b a i j c)
 
--- b ends no earlier than it begins
-abbrev pub Order : Use → ℕ → ℕ → ℤ → Type 0
-Order b i j c = (i ≡ b.last) × (j ≡ b.first) × (c ≡ pos 0)
-
--- and takes its turns with the others
+-- b ends no earlier than it begins, and takes its turns with the others
 abbrev pub Precedence : View → List Use → Use → ℕ → ℕ → ℤ → Type 0
-Precedence m us b i j c = Order b i j c ⊎ Turns m us b i j c
+Precedence m us b i j c = ((i ≡ b.last) × (j ≡ b.first) × (c ≡ pos 0)) ⊎ Turns m us b i j c

@@ -1,20 +1,13 @@
 // The bounds that follow from the order of a crossing, and from the turns that two have to take.
 ghost use Rattle.model.specs.Narrowings.{Narrowed};
 ghost use Rattle.tables.specs.Views.{bounds_view, table_view};
-ghost use Rattle.crossings.specs.Crossings.{uses_of, Order, Turn, Turns};
+ghost use Rattle.crossings.specs.Crossings.{uses_of, Turn, Turns};
 ghost use Rattle.weighbridge_laws.specs.Weighbridges.{Gives};
 
 use model::slips::Use;
 use register::records::Numbered;
 use tables::bounds::Bounds;
 use tables::tables::Table;
-
-// A use ends no earlier than it begins.
-fn lower_order(b: Use, bounds: &mut Bounds)
-    ensures { Narrowed (Order b) (bounds_view bounds.old) (bounds_view bounds.new) }
-{
-    bounds.lower(b.last, b.first, 0);
-}
 
 // If b begins before a has ended, b ends by the time that a begins.
 fn lower_turn(table: &Table, a: Use, b: Use, bounds: &mut Bounds)
@@ -40,7 +33,7 @@ pub fn lower_all(table: &Table, uses: &[Numbered<Use>], bounds: &mut Bounds)
     ensures { Narrowed (Gives (uses_of uses.now) (table_view table.now)) (bounds_view bounds.old) (bounds_view bounds.new) }
 {
     for (i, b) in uses.iter().enumerate() {
-        lower_order(b.what, bounds);
+        bounds.lower(b.what.last, b.what.first, 0);
         lower_turns(table, &uses[0..i], b.what, bounds);
     }
 }

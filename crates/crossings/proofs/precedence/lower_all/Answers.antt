@@ -1,6 +1,8 @@
 use native.Mathlib.Nat.{sub-zero}
+use Rattle.std.proofs.Common.{get_or, pos, sym, subst}
 use Rattle.model.proofs.Narrowings.{narrowed_then, narrowed_none}
 use Rattle.model.specs.Narrowings.{Narrowed}
+use Rattle.tables.proofs.Narrows.{One, narrowed_one}
 use Rattle.tables.specs.Views.{bounds_view, table_view}
 use Rattle.crossings.proofs.Prefixes.{blank, all_passed, narrowed_more}
 use Rattle.crossings.proofs.Pushes.{gives_grows}
@@ -16,11 +18,14 @@ loop-i-init c =
 pub loop-i-preserved : goal.loop-i-preserved
 loop-i-preserved c =
     let m = table_view c.args.table.now in
+    let u = (get_or c.args.uses.now c.loop-i.i blank).what in
     let before = bounds_view c.loop-i.bounds in
-    let between = bounds_view c.lower_order.new.bounds in
+    let between = bounds_view c.lower.new.self in
     let after = bounds_view c.lower_turns.new.bounds in
     narrowed_more c.args.uses.now c.loop-i.i blank c.loop-i-test.true (λ us. Gives us m) (Precedence m) (gives_grows m) (bounds_view c.args.bounds.now) before after c.loop-i.invariant
-    (narrowed_then _ _ before between after c.lower_order.ensures (simp sub-zero at c.lower_turns.ensures))
+    (narrowed_then _ _ before between after
+    (subst (Narrowed (One u.last u.first (pos 0)) before) (sym c.lower.ensures) (narrowed_one before u.last u.first (pos 0)))
+    (simp sub-zero at c.lower_turns.ensures))
 
 pub returns : goal.returns
 returns c =
