@@ -1,6 +1,6 @@
 // The bunker itself. What is done with it stands in the other modules.
-pub use bunker_profile::stocks::MOST_USES;
-use bunker_profile::stocks::Stock;
+pub use crate::stocks::MOST_USES;
+use crate::stocks::Stock;
 
 mod making;
 

@@ -3,4 +3,12 @@
 
 pub mod bunkers;
 pub mod limit;
+mod moments;
+mod options;
+mod profile;
+mod propagating;
+mod refusing;
 pub mod rule;
+mod stocks;
+mod stretches;
+mod vouching;

@@ -5,9 +5,9 @@ ghost use Rattle.bunker_laws.proofs.Lawful.{bunker_lawful};
 ghost use Rattle.std.proofs.Common.{rules};
 
 use crate::bunkers::Bunker;
-use bunker_answers::propagating::propagate;
-use bunker_answers::refusing::refuses;
-use bunker_answers::vouching::vouches;
+use crate::propagating::propagate;
+use crate::refusing::refuses;
+use crate::vouching::vouches;
 use bunker_laws::settings::Settings;
 use model::moments::Moment;
 use rules::rule::Rule;

@@ -6,8 +6,8 @@ ghost use Rattle.model.specs.Uses.{none};
 ghost use Rattle.model.specs.declared.refusals.Refusal.TheVariants.{BadSettings, OutOfMemory};
 
 use super::Bunker;
+use crate::stocks::Stock;
 use bunker_laws::settings::Settings;
-use bunker_profile::stocks::Stock;
 use model::refusals::Refusal;
 use register::registers::Register;
 use std::alloc::Global;

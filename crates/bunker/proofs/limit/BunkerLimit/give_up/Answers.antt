@@ -1,6 +1,6 @@
 use Rattle.bunker.proofs.Kept.{kept}
 use Rattle.bunker.proofs.limit.BunkerLimit.give_up.Goals as goal
-use Rattle.bunker_profile.specs.Ranges.{Light}
+use Rattle.bunker.specs.Ranges.{Light}
 use Rattle.register.specs.Standing.{stands}
 use Rattle.std.proofs.Common.{is_ok, None}
 

@@ -1,7 +1,7 @@
 use Rattle.std.proofs.Common.{is_ok, Some, sym, ◌∙◌}
 use Rattle.bunker.proofs.Kept.{kept, taken_formed, formed_light}
 use Rattle.bunker.proofs.limit.BunkerLimit.take.Goals as goal
-use Rattle.bunker_profile.specs.Ranges.{Light}
+use Rattle.bunker.specs.Ranges.{Light}
 use Rattle.model.specs.Limits.{at_first}
 use Rattle.model.specs.Uses.{single}
 use Rattle.register.specs.Standing.{stands}

@@ -1,7 +1,7 @@
 use Rattle.std.proofs.Common.{sym, arith}
 use Rattle.bunker.proofs.Told.{levels_told_holds}
 use Rattle.bunker.proofs.rule.BunkerRule.levels.Goals as goal
-use Rattle.bunker_profile.specs.Stocks.{uses_of}
+use Rattle.bunker.specs.Stocks.{uses_of}
 use Rattle.model.specs.Uses.{standing}
 use Rattle.register.proofs.Gathered.{standing_items}
 use Rattle.register.specs.Standing.{stands}

@@ -1,0 +1,20 @@
+// What a bunker holds. What is done with it stands in the other modules.
+ghost use Rattle.std.specs.Prelude.{◌≡◌, ℕ, pos, negsuc, ◌≤ℤ◌, Some};
+ghost use Rattle.model.specs.declared.slips.Use.{Use};
+ghost use Rattle.register.specs.Standing.{stands};
+
+use bunker_laws::settings::Settings;
+use model::slips::Use;
+use register::registers::Register;
+
+// The most uses that stand in a bunker.
+pub const MOST_USES: usize = 32;
+
+// A floor, a roof and a start, and the deliveries and loans that stand, each of at most a million kilos either way.
+#[derive(Drop)]
+pub(crate) struct Stock {
+    pub(crate) settings: Settings,
+    pub(crate) uses: Register<Use, MOST_USES>,
+    ghost low: { (k : ℕ) (u : Use) → stands uses k ≡ Some u → negsuc 999999 ≤ℤ u.kilos },
+    ghost high: { (k : ℕ) (u : Use) → stands uses k ≡ Some u → u.kilos ≤ℤ pos 1000000 },
+}

@@ -1,4 +1,0 @@
-mod Rooms
-mod Searches
-mod Steps
-mod Stretches

@@ -1,3 +1,0 @@
-mod Levels
-mod Runs
-pub mod Turns

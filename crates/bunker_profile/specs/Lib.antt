@@ -1,4 +1,0 @@
-pub mod Choices
-pub mod Ranges
-pub mod Stocks
-pub mod Stretches
