@@ -1,6 +1,6 @@
 -- What holds of every use of a bunker still does once one is taken or given up.
 use Rattle.std.proofs.Common.{◌≡◌, ℕ, Bool, true, false, cond, ◌&&◌, eqb, ltb, IfSome, is_ok, Some, Option, Result, sym, refl, ap, ◌∙◌, subst, arith}
-use Rattle.bunker.specs.Forms.{moves_kilos}
+use Rattle.bunker.specs.Ranges.{moves_kilos}
 use Rattle.bunker.specs.Ranges.{Light}
 use Rattle.model.specs.Limits.{places_of, in_range, not_taken, answer}
 use Rattle.model.specs.Uses.{Uses, single, put}

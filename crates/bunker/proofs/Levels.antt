@@ -2,8 +2,8 @@
 use Rattle.std.proofs.Common.{◌≡◌, ℕ, ◌+◌, Bool, true, cond, ◌&&◌, List, [], ◌∷◌, ◌++◌, take, ℤ, pos, negsuc, ◌+ℤ◌, ◌≤ℤ◌, sym, ap, ◌∙◌, subst, ap₂, arith}
 use Rattle.bunker.specs.Choices.{high_of, low_of, missed}
 use Rattle.bunker.specs.Ranges.{Small}
-use Rattle.bunker.specs.Stocks.{uses_of}
-use Rattle.bunker.specs.declared.stocks.Stock.{Stock}
+use Rattle.bunker.specs.Records.{uses_of}
+use Rattle.bunker.specs.declared.bunkers.Bunker.{Bunker}
 use Rattle.bunker.specs.declared.options.Options.{Options}
 use Rattle.bunker.proofs.Turns.{Turn, few_uses, light_use, light_front}
 use Rattle.bunker_laws.proofs.Ranges.{Among, high_within, low_within, total_high_within, total_low_within}
@@ -42,7 +42,7 @@ pub record Front (m : View) (x : Moment) (us : List Use) : Type 0 where
   pub order : total (low m x) us ≤ℤ total (high m x) us
   pub tall : total (high m x) us ≤ℤ pos 32000000
 
-pub front_levels : (b : Stock) (m : View) (x : Moment) (i : ℕ) → Front m x (take i (uses_of b))
+pub front_levels : (b : Bunker) (m : View) (x : Moment) (i : ℕ) → Front m x (take i (uses_of b))
 front_levels b m x i = record {
   deep = (total_low_within (take i (uses_of b)) m x 32 (few_uses b i) (light_front b i)).0;
   order = total_le (take i (uses_of b)) (low m x) (high m x) (λ u _. low_high m x u);
@@ -55,7 +55,7 @@ pub record Adds (f : Use → ℤ) (us : List Use) (i : ℕ) (z : ℤ) : Type 0 w
   pub here : Among 1000000 z
   pub after : total f (take (i + 1) us) ≡ (total f (take i us) +ℤ z)
 
-module _ (b : Stock) (m : View) (x : Moment) (i : ℕ) (u : Use) (o : Options) (t : Turn (uses_of b) i u) (w : o.worth ≡ worth u) (a : o.active ≡ can_be_active m x u) (d : o.idle ≡ can_be_idle m x u) where
+module _ (b : Bunker) (m : View) (x : Moment) (i : ℕ) (u : Use) (o : Options) (t : Turn (uses_of b) i u) (w : o.worth ≡ worth u) (a : o.active ≡ can_be_active m x u) (d : o.idle ≡ can_be_idle m x u) where
   after : (f : Use → ℤ) → total f (take (i + 1) (uses_of b)) ≡ (total f (take i (uses_of b)) +ℤ f u)
   after f = ap (total f) t.more ∙ total_push f (take i (uses_of b)) u
 

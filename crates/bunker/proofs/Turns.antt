@@ -1,8 +1,8 @@
 -- The turns of a loop over the uses of a bunker.
 use Rattle.std.proofs.Common.{◌≡◌, ℕ, ◌+◌, ◌<◌, ◌≤◌, ◌⊎◌, List, [], ◌∷◌, ◌++◌, map, length, get_or, take, pos, sym, ap, ◌∙◌, subst, inl, inr, ⊎_elim, arith}
 use Rattle.bunker.specs.Ranges.{Light}
-use Rattle.bunker.specs.Stocks.{uses_of}
-use Rattle.bunker.specs.declared.stocks.Stock.{Stock}
+use Rattle.bunker.specs.Records.{uses_of}
+use Rattle.bunker.specs.declared.bunkers.Bunker.{Bunker}
 use Rattle.model.proofs.Gathers.{under_number}
 use Rattle.model.proofs.Members.{in_either, in_front, in_last, in_place, in_taken}
 use Rattle.model.specs.Uses.{In}
@@ -40,7 +40,7 @@ module _ (us : List Use) (i : ℕ) (u : Use) (t : Turn us i u) where
 
 -- ---- the records of a bunker
 
-module _ (b : Stock) (xs : List (Numbered Use)) (i : ℕ) (same : xs ≡ items_of b.uses) where
+module _ (b : Bunker) (xs : List (Numbered Use)) (i : ℕ) (same : xs ≡ items_of b.uses) where
   count : length (uses_of b) ≡ length xs
   count = ap (λ ys. length (map what_of ys)) (sym same) ∙ length-map xs what_of
 
@@ -56,7 +56,7 @@ module _ (b : Stock) (xs : List (Numbered Use)) (i : ℕ) (same : xs ≡ items_o
   pub passed : length xs ≤ i → take i (uses_of b) ≡ uses_of b
   passed h = take_all i (uses_of b) (omega (arith, count))
 
-module _ (b : Stock) where
+module _ (b : Bunker) where
   pub few_uses : (i : ℕ) → length (take i (uses_of b)) ≤ 32
   few_uses i = omega (arith, length-take i (uses_of b), length-map (items_of b.uses) what_of, b.uses.few)
 

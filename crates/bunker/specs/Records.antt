@@ -1,8 +1,15 @@
 -- The uses that stand in a bunker.
+use Rattle.std.specs.Prelude.{List, map}
 use Rattle.bunker.specs.declared.bunkers.Bunker.{Bunker}
 use Rattle.model.specs.Uses.{Uses, single}
-use Rattle.register.specs.Standing.{stands}
+use Rattle.model.specs.declared.slips.Use.{Use}
+use Rattle.register.specs.Lookups.{what_of}
+use Rattle.register.specs.Standing.{items_of, stands}
 
 -- all at its one place
 abbrev pub bunker_uses : Bunker → Uses
-bunker_uses b = single (stands b.stock.uses)
+bunker_uses b = single (stands b.uses)
+
+-- by rising number
+abbrev pub uses_of : Bunker → List Use
+uses_of b = map what_of (items_of b.uses)

@@ -1,6 +1,6 @@
 // A bunker as a limit.
 ghost use Rattle.std.specs.Prelude.{◌≡◌};
-ghost use Rattle.bunker.specs.Forms.{moves_kilos};
+ghost use Rattle.bunker.specs.Ranges.{moves_kilos};
 ghost use Rattle.model.specs.Limits.{at_first};
 ghost use Rattle.rules.proofs.Singles.{few_single};
 
@@ -25,7 +25,7 @@ impl Limit for Bunker {
 
     ghost form = { λ _ _ u. moves_kilos u };
 
-    ghost few = { λ x place. few_single x.stock.uses place };
+    ghost few = { λ x place. few_single x.uses place };
 
     fn places(&self) -> usize {
         1
@@ -36,14 +36,14 @@ impl Limit for Bunker {
     }
 
     fn any_use(&self) -> bool {
-        !self.stock.uses.is_empty()
+        !self.uses.is_empty()
     }
 
     fn take(&mut self, place: usize, number: u32, what: Use) -> Result<(), Refusal> {
-        take_one(&mut self.stock.uses, place, number, what, moves_kilos(what))
+        take_one(&mut self.uses, place, number, what, moves_kilos(what))
     }
 
     fn give_up(&mut self, place: usize, number: u32) -> Result<(), Refusal> {
-        give_up_one(&mut self.stock.uses, place, number)
+        give_up_one(&mut self.uses, place, number)
     }
 }

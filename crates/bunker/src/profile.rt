@@ -3,11 +3,11 @@ ghost use Rattle.std.specs.Prelude.{◌≡◌, pos, negsuc, ◌≤ℤ◌};
 ghost use Rattle.bunker_laws.specs.Bunkers.{highest, lowest};
 ghost use Rattle.bunker.specs.Choices.{missed, within, ruled_out};
 ghost use Rattle.bunker.specs.Ranges.{Small};
-ghost use Rattle.bunker.specs.Stocks.{uses_of};
+ghost use Rattle.bunker.specs.Records.{uses_of};
 ghost use Rattle.tables.specs.Views.{table_view};
 
+use crate::bunkers::Bunker;
 use crate::options::Options;
-use crate::stocks::Stock;
 use bunker_laws::settings::Settings;
 use model::moments::Moment;
 use tables::tables::Table;
@@ -70,7 +70,7 @@ impl Levels {
     }
 }
 
-impl Stock {
+impl Bunker {
     // The levels at a moment: the start, and for each use its highest and its lowest worth.
     pub(crate) fn profile(&self, table: &Table, at: Moment) -> Levels
         ensures highest { result.highest ≡ highest self.now.settings (uses_of self.now) (table_view table.now) at }

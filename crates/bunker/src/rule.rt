@@ -5,9 +5,6 @@ ghost use Rattle.bunker_laws.proofs.Lawful.{bunker_lawful};
 ghost use Rattle.std.proofs.Common.{rules};
 
 use crate::bunkers::Bunker;
-use crate::propagating::propagate;
-use crate::refusing::refuses;
-use crate::vouching::vouches;
 use bunker_laws::settings::Settings;
 use model::moments::Moment;
 use rules::rule::Rule;
@@ -17,7 +14,7 @@ use tables::tables::Table;
 impl Rule for Bunker {
     type Settings = Settings;
 
-    ghost settings = { λ x. x.stock.settings };
+    ghost settings = { λ x. x.settings };
 
     ghost uses = { bunker_uses };
 
@@ -34,22 +31,22 @@ impl Rule for Bunker {
     }
 
     fn refuses(&self, table: &Table) -> bool {
-        refuses(&self.stock, table)
+        self.rejects(table)
     }
 
     fn vouches(&self, table: &Table) -> bool {
-        vouches(&self.stock, table)
+        self.approves(table)
     }
 
     fn lower(&self, table: &Table, bounds: &mut Bounds) {
-        propagate(&self.stock, table, bounds);
+        self.propagate(table, bounds);
     }
 
     fn levels(&self, table: &Table, place: usize, at: Moment) -> Option<(i32, i32)> {
         if place > 0 {
             return None;
         }
-        let levels = self.stock.profile(table, at);
+        let levels = self.profile(table, at);
         Some((levels.highest, levels.lowest))
     }
 }

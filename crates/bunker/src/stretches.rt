@@ -1,12 +1,12 @@
 // Stretches of minutes at which a table is sure of the same of all points that the uses name.
 ghost use Rattle.std.specs.Prelude.{◌≡◌, ◌<◌, ◌≤◌, pos, MatchOption, int_le};
-ghost use Rattle.bunker.specs.Stocks.{uses_of};
+ghost use Rattle.bunker.specs.Records.{uses_of};
 ghost use Rattle.bunker.specs.Stretches.{RunEnds, SameAt, SameFor, Stretch};
 ghost use Rattle.model.specs.declared.moments.Moment.TheVariants.{Minute};
 ghost use Rattle.tables.specs.Views.{table_view};
 
+use crate::bunkers::Bunker;
 use crate::moments::LAST_MINUTE;
-use crate::stocks::Stock;
 use model::slips::Use;
 use tables::tables::Table;
 
@@ -40,7 +40,7 @@ fn before_use(table: &Table, what: Use, first: u32, last: u32) -> u32
     before_point(table, what.last, first, end)
 }
 
-impl Stock {
+impl Bunker {
     // The last minute of the longest stretch that begins with `first`, or None past the day.
     pub(crate) fn stretch_end(&self, table: &Table, first: u32) -> Option<u32>
         ensures { MatchOption result (10080 < first) (λ last. Stretch (table_view table.now) (uses_of self.now) first last) }

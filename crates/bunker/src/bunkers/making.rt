@@ -6,7 +6,6 @@ ghost use Rattle.model.specs.Uses.{none};
 ghost use Rattle.model.specs.declared.refusals.Refusal.TheVariants.{BadSettings, OutOfMemory};
 
 use super::Bunker;
-use crate::stocks::Stock;
 use bunker_laws::settings::Settings;
 use model::refusals::Refusal;
 use register::registers::Register;
@@ -16,13 +15,11 @@ impl Bunker {
     // A bunker in which no use stands, with memory for all that it may ever hold. Settings other than
     // 0 <= floor <= start <= roof <= 100,000,000 are refused.
     pub fn new(heap: Global, floor: i32, roof: i32, start: i32) -> Result<Bunker, Refusal>
-        ensures { MatchResult result (λ b. Proper floor roof start × (b.stock.settings.floor ≡ floor) × (b.stock.settings.roof ≡ roof) × (b.stock.settings.start ≡ start) × (bunker_uses b ≡ none)) (λ e. ((e ≡ BadSettings) × (Proper floor roof start → ⊥)) ⊎ ((e ≡ OutOfMemory) × Proper floor roof start)) }
+        ensures { MatchResult result (λ b. Proper floor roof start × (b.settings.floor ≡ floor) × (b.settings.roof ≡ roof) × (b.settings.start ≡ start) × (bunker_uses b ≡ none)) (λ e. ((e ≡ BadSettings) × (Proper floor roof start → ⊥)) ⊎ ((e ≡ OutOfMemory) × Proper floor roof start)) }
     {
         let settings = Settings::new(floor, roof, start)?;
         match Register::new(heap) {
-            Ok(uses) => Ok(Bunker {
-                stock: Stock { settings, uses },
-            }),
+            Ok(uses) => Ok(Bunker { settings, uses }),
             Err(_) => Err(Refusal::OutOfMemory),
         }
     }

@@ -8,7 +8,7 @@ use Rattle.register.specs.Standing.{stands}
 
 pub invariant_of-self : goal.invariant_of-self
 invariant_of-self c =
-    let b = c.args.self.now.stock in
+    let b = c.args.self.now in
     let before = stands b.uses in
     let place = c.args.place in
     let number = c.args.number in

@@ -1,7 +1,7 @@
 use Rattle.std.proofs.Common.{sym, arith}
 use Rattle.bunker.proofs.Told.{levels_told_holds}
 use Rattle.bunker.proofs.rule.BunkerRule.levels.Goals as goal
-use Rattle.bunker.specs.Stocks.{uses_of}
+use Rattle.bunker.specs.Records.{uses_of}
 use Rattle.model.specs.Uses.{standing}
 use Rattle.register.proofs.Gathered.{standing_items}
 use Rattle.register.specs.Standing.{stands}
@@ -10,5 +10,5 @@ use Rattle.tables.specs.Views.{table_view}
 
 pub returns : goal.returns
 returns c =
-    let b = c.args.self.now.stock in
+    let b = c.args.self.now in
     levels_told_holds b.settings (uses_of b) (standing (stands b.uses)) (table_view c.args.table.now) c.args.at c.args.place _ _ (omega arith) (sym (standing_items b.uses)) (omega (arith, ints, c.profile-levels.ensures.highest)) (omega (arith, ints, c.profile-levels.ensures.lowest))

@@ -6,5 +6,5 @@ use Rattle.tables.specs.Views.{table_view}
 
 pub returns : goal.returns
 returns c =
-    let b = c.args.self.now.stock in
-    subst (λ us. Decides c.vouches.result (Vouches b.settings us (table_view c.args.table.now))) (sym (standing_items b.uses)) c.vouches.ensures
+    let b = c.args.self.now in
+    subst (λ us. Decides c.approves.result (Vouches b.settings us (table_view c.args.table.now))) (sym (standing_items b.uses)) c.approves.ensures

@@ -1,0 +1,9 @@
+use Rattle.std.proofs.Common.{take}
+use Rattle.bunker.proofs.bunkers.Bunker.propagate_points.Given as goal
+use Rattle.bunker.specs.Following.{FollowsPoints}
+use Rattle.bunker.specs.Records.{uses_of}
+use Rattle.model.specs.Narrowings.{Narrowed}
+use Rattle.tables.specs.Views.{bounds_view, table_view}
+
+abbrev pub invariant-loop-x : goal.invariant-loop-x
+invariant-loop-x l = Narrowed (FollowsPoints l.self.settings (uses_of l.self) (table_view l.table) (take l.x-index (uses_of l.self))) (bounds_view l.initial.bounds) (bounds_view l.bounds)
