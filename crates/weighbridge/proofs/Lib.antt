@@ -1,0 +1,3 @@
+mod Lists
+mod Prefixes
+mod Pushes

@@ -1,1 +1,2 @@
 pub mod Bridges
+pub mod Crossings

@@ -1,6 +1,9 @@
-// A weighbridge as a rule and as a limit. What it means stands in the crate weighbridge_laws, how a table is asked about it in crossings.
+// A weighbridge as a rule and as a limit. What it means stands in the crate weighbridge_laws.
 #![tactic(auto)]
 
+mod conflicts;
 pub mod limit;
+mod precedence;
 pub mod rule;
+mod separation;
 pub mod weighbridges;

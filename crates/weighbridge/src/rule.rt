@@ -4,10 +4,10 @@ ghost use Rattle.weighbridge_laws.specs.Weighbridges.{meaning as bridgeMeaning};
 ghost use Rattle.weighbridge_laws.proofs.Lawful.{weighbridge_lawful};
 ghost use Rattle.std.proofs.Common.{rules};
 
+use crate::conflicts::any_conflict;
+use crate::precedence::lower_all;
+use crate::separation::all_clear;
 use crate::weighbridges::Weighbridge;
-use crossings::conflicts::any_conflict;
-use crossings::precedence::lower_all;
-use crossings::separation::all_clear;
 use model::moments::Moment;
 use rules::rule::Rule;
 use tables::bounds::Bounds;

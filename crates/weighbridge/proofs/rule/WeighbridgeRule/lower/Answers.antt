@@ -3,7 +3,7 @@ use Rattle.model.specs.Narrowings.{Narrowed}
 use Rattle.register.proofs.Gathered.{standing_items}
 use Rattle.tables.specs.Views.{bounds_view, table_view}
 use Rattle.weighbridge.proofs.rule.WeighbridgeRule.lower.Goals as goal
-use Rattle.crossings.specs.Crossings.{uses_of}
+use Rattle.weighbridge.specs.Crossings.{uses_of}
 use Rattle.weighbridge_laws.specs.Weighbridges.{Gives}
 
 pub returns : goal.returns

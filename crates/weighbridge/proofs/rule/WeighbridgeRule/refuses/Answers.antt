@@ -2,7 +2,7 @@ use Rattle.std.proofs.Common.{Decides, sym, ap, ◌∙◌, subst}
 use Rattle.register.proofs.Gathered.{standing_items}
 use Rattle.tables.specs.Views.{table_view}
 use Rattle.weighbridge.proofs.rule.WeighbridgeRule.refuses.Goals as goal
-use Rattle.crossings.specs.Crossings.{uses_of}
+use Rattle.weighbridge.specs.Crossings.{uses_of}
 use Rattle.weighbridge_laws.specs.Weighbridges.{Refuses}
 
 pub returns : goal.returns

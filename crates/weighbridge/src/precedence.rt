@@ -1,7 +1,7 @@
 // The bounds that follow from the order of a crossing, and from the turns that two have to take.
 ghost use Rattle.model.specs.Narrowings.{Narrowed};
 ghost use Rattle.tables.specs.Views.{bounds_view, table_view};
-ghost use Rattle.crossings.specs.Crossings.{uses_of, Turn, Turns};
+ghost use Rattle.weighbridge.specs.Crossings.{uses_of, Turn, Turns};
 ghost use Rattle.weighbridge_laws.specs.Weighbridges.{Gives};
 
 use model::slips::Use;
@@ -29,7 +29,7 @@ fn lower_turns(table: &Table, others: &[Numbered<Use>], b: Use, bounds: &mut Bou
 }
 
 // The order of each use, and its turns with those before it.
-pub fn lower_all(table: &Table, uses: &[Numbered<Use>], bounds: &mut Bounds)
+pub(crate) fn lower_all(table: &Table, uses: &[Numbered<Use>], bounds: &mut Bounds)
     ensures { Narrowed (Gives (uses_of uses.now) (table_view table.now)) (bounds_view bounds.old) (bounds_view bounds.new) }
 {
     for (i, b) in uses.iter().enumerate() {

@@ -1,9 +1,9 @@
 use Rattle.std.proofs.lemmas.Bool.Decides.{not_from_Decides}
 use Rattle.tables.specs.Views.{table_view}
-use Rattle.crossings.proofs.Prefixes.{blank, all_passed, found, not_found, decides_true, decides_false}
-use Rattle.crossings.proofs.Pushes.{some_grows}
-use Rattle.crossings.proofs.conflicts.overlaps_one.Goals as goal
-use Rattle.crossings.specs.Crossings.{Overlap, OverlapsOne}
+use Rattle.weighbridge.proofs.Prefixes.{blank, all_passed, found, not_found, decides_true, decides_false}
+use Rattle.weighbridge.proofs.Pushes.{some_grows}
+use Rattle.weighbridge.proofs.conflicts.overlaps_one.Goals as goal
+use Rattle.weighbridge.specs.Crossings.{Overlap, OverlapsOne}
 
 pub returns-then-overlap : goal.returns-then-overlap
 returns-then-overlap c =

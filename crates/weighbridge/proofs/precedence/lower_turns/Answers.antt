@@ -2,10 +2,10 @@ use Rattle.std.proofs.Common.{◌⊎◌}
 use Rattle.model.proofs.Narrowings.{narrowed_then, narrowed_none}
 use Rattle.model.specs.Narrowings.{Narrowed}
 use Rattle.tables.specs.Views.{bounds_view, table_view}
-use Rattle.crossings.proofs.Prefixes.{blank, all_passed, narrowed_more}
-use Rattle.crossings.proofs.Pushes.{some_grows}
-use Rattle.crossings.proofs.precedence.lower_turns.Goals as goal
-use Rattle.crossings.specs.Crossings.{Turn, Turns}
+use Rattle.weighbridge.proofs.Prefixes.{blank, all_passed, narrowed_more}
+use Rattle.weighbridge.proofs.Pushes.{some_grows}
+use Rattle.weighbridge.proofs.precedence.lower_turns.Goals as goal
+use Rattle.weighbridge.specs.Crossings.{Turn, Turns}
 
 pub loop-a-init : goal.loop-a-init
 loop-a-init c = narrowed_none _ (bounds_view c.args.bounds.now) (λ i j v w. w.1)

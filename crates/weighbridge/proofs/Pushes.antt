@@ -4,9 +4,9 @@ use Rattle.model.specs.Plans.{View}
 use Rattle.model.specs.Uses.{In}
 use Rattle.model.specs.declared.slips.Use.{Use}
 use Rattle.model.proofs.Members.{in_front, in_last}
-use Rattle.crossings.proofs.Lists.{in_push, two_front, two_last, two_swap, two_push}
-use Rattle.crossings.proofs.Prefixes.{Grows, Shrinks}
-use Rattle.crossings.specs.Crossings.{Overlap, Conflicts, Apart, Clear, Turn, Precedence}
+use Rattle.weighbridge.proofs.Lists.{in_push, two_front, two_last, two_swap, two_push}
+use Rattle.weighbridge.proofs.Prefixes.{Grows, Shrinks}
+use Rattle.weighbridge.specs.Crossings.{Overlap, Conflicts, Apart, Clear, Turn, Precedence}
 use Rattle.weighbridge_laws.specs.Weighbridges.{Refuses, Vouches, Gives}
 
 -- P holds of one of the uses

@@ -1,7 +1,7 @@
 // Crossings that leave a table no plan.
 ghost use Rattle.std.specs.Prelude.{Decides};
 ghost use Rattle.tables.specs.Views.{table_view};
-ghost use Rattle.crossings.specs.Crossings.{uses_of, Overlap, OverlapsOne, Conflicts};
+ghost use Rattle.weighbridge.specs.Crossings.{uses_of, Overlap, OverlapsOne, Conflicts};
 ghost use Rattle.weighbridge_laws.specs.Weighbridges.{Refuses};
 
 use model::slips::Use;
@@ -35,7 +35,7 @@ fn conflicts(table: &Table, others: &[Numbered<Use>], b: Use) -> bool
 }
 
 // Whether any of the uses conflicts with itself or with one before it.
-pub fn any_conflict(table: &Table, uses: &[Numbered<Use>]) -> bool
+pub(crate) fn any_conflict(table: &Table, uses: &[Numbered<Use>]) -> bool
     ensures { Decides result (Refuses (uses_of uses.now) (table_view table.now)) }
 {
     for (i, b) in uses.iter().enumerate() {

@@ -1,9 +1,9 @@
 use native.Mathlib.Nat.{sub-zero}
 use Rattle.std.proofs.lemmas.Bool.Decides.{not_from_Decides}
 use Rattle.tables.specs.Views.{table_view}
-use Rattle.crossings.proofs.Prefixes.{blank, all_passed, found, not_found, decides_true, decides_false}
-use Rattle.crossings.proofs.Pushes.{refuses_grows}
-use Rattle.crossings.proofs.conflicts.any_conflict.Goals as goal
+use Rattle.weighbridge.proofs.Prefixes.{blank, all_passed, found, not_found, decides_true, decides_false}
+use Rattle.weighbridge.proofs.Pushes.{refuses_grows}
+use Rattle.weighbridge.proofs.conflicts.any_conflict.Goals as goal
 use Rattle.weighbridge_laws.specs.Weighbridges.{Refuses}
 
 pub returns-then-conflicts : goal.returns-then-conflicts

@@ -8,7 +8,7 @@ use Rattle.model.specs.Plans.{View}
 use Rattle.model.specs.declared.slips.Use.{Use}
 use Rattle.register.specs.Lookups.{what_of}
 use Rattle.register.specs.declared.records.Numbered.{Numbered}
-use Rattle.crossings.specs.Crossings.{uses_of}
+use Rattle.weighbridge.specs.Crossings.{uses_of}
 
 -- Q holds of a list where R holds of one of its uses and those before it
 pub record Grows (Q : List Use → Type 0) (R : List Use → Use → Type 0) : Type 0 where

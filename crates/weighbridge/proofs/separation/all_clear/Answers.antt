@@ -1,9 +1,9 @@
 use native.Mathlib.Nat.{sub-zero}
 use Rattle.std.proofs.lemmas.Bool.Decides.{not_from_Decides}
 use Rattle.tables.specs.Views.{table_view}
-use Rattle.crossings.proofs.Prefixes.{blank, all_passed, kept, broken, decides_true, decides_false}
-use Rattle.crossings.proofs.Pushes.{vouches_shrinks}
-use Rattle.crossings.proofs.separation.all_clear.Goals as goal
+use Rattle.weighbridge.proofs.Prefixes.{blank, all_passed, kept, broken, decides_true, decides_false}
+use Rattle.weighbridge.proofs.Pushes.{vouches_shrinks}
+use Rattle.weighbridge.proofs.separation.all_clear.Goals as goal
 use Rattle.weighbridge_laws.specs.Weighbridges.{Vouches}
 
 pub returns-then-not-clear : goal.returns-then-not-clear

@@ -1,9 +1,9 @@
 use Rattle.std.proofs.lemmas.Bool.Decides.{not_from_Decides}
 use Rattle.tables.specs.Views.{table_view}
-use Rattle.crossings.proofs.Prefixes.{blank, all_passed, kept, broken, decides_true, decides_false}
-use Rattle.crossings.proofs.Pushes.{each_shrinks}
-use Rattle.crossings.proofs.separation.apart_from_all.Goals as goal
-use Rattle.crossings.specs.Crossings.{Apart, ApartFromAll}
+use Rattle.weighbridge.proofs.Prefixes.{blank, all_passed, kept, broken, decides_true, decides_false}
+use Rattle.weighbridge.proofs.Pushes.{each_shrinks}
+use Rattle.weighbridge.proofs.separation.apart_from_all.Goals as goal
+use Rattle.weighbridge.specs.Crossings.{Apart, ApartFromAll}
 
 pub returns-then-not-apart : goal.returns-then-not-apart
 returns-then-not-apart c =

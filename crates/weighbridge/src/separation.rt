@@ -1,7 +1,7 @@
 // Crossings that a table keeps apart.
 ghost use Rattle.std.specs.Prelude.{Decides};
 ghost use Rattle.tables.specs.Views.{table_view};
-ghost use Rattle.crossings.specs.Crossings.{uses_of, Apart, ApartFromAll, Clear};
+ghost use Rattle.weighbridge.specs.Crossings.{uses_of, Apart, ApartFromAll, Clear};
 ghost use Rattle.weighbridge_laws.specs.Weighbridges.{Vouches};
 
 use model::slips::Use;
@@ -35,7 +35,7 @@ fn clear(table: &Table, others: &[Numbered<Use>], b: Use) -> bool
 }
 
 // Whether each of the uses is clear of those before it.
-pub fn all_clear(table: &Table, uses: &[Numbered<Use>]) -> bool
+pub(crate) fn all_clear(table: &Table, uses: &[Numbered<Use>]) -> bool
     ensures { Decides result (Vouches (uses_of uses.now) (table_view table.now)) }
 {
     for (i, b) in uses.iter().enumerate() {

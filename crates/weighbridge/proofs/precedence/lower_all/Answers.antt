@@ -4,10 +4,10 @@ use Rattle.model.proofs.Narrowings.{narrowed_then, narrowed_none}
 use Rattle.model.specs.Narrowings.{Narrowed}
 use Rattle.tables.proofs.Narrows.{One, narrowed_one}
 use Rattle.tables.specs.Views.{bounds_view, table_view}
-use Rattle.crossings.proofs.Prefixes.{blank, all_passed, narrowed_more}
-use Rattle.crossings.proofs.Pushes.{gives_grows}
-use Rattle.crossings.proofs.precedence.lower_all.Goals as goal
-use Rattle.crossings.specs.Crossings.{Precedence}
+use Rattle.weighbridge.proofs.Prefixes.{blank, all_passed, narrowed_more}
+use Rattle.weighbridge.proofs.Pushes.{gives_grows}
+use Rattle.weighbridge.proofs.precedence.lower_all.Goals as goal
+use Rattle.weighbridge.specs.Crossings.{Precedence}
 use Rattle.weighbridge_laws.specs.Weighbridges.{Gives}
 
 pub loop-i-init : goal.loop-i-init

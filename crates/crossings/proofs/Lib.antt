@@ -1,3 +1,0 @@
-mod Lists
-mod Prefixes
-mod Pushes
