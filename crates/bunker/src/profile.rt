@@ -1,7 +1,7 @@
 // The resource profile of a bunker: how high and how low it can stand at a moment.
-ghost use Rattle.std.specs.Prelude.{◌≡◌, pos, negsuc, ◌≤ℤ◌};
+ghost use Rattle.std.specs.Prelude.{◌≡◌, ◌&&◌, pos, negsuc, ◌+ℤ◌, ◌-ℤ◌, ◌≤ℤ◌};
 ghost use Rattle.bunker_laws.specs.Bunkers.{highest, lowest};
-ghost use Rattle.bunker.specs.Choices.{missed, within, ruled_out};
+ghost use Rattle.bunker.specs.Choices.{high_of, low_of, missed, within, ruled_out};
 ghost use Rattle.bunker.specs.Ranges.{Small};
 ghost use Rattle.bunker.specs.Records.{uses_of};
 ghost use Rattle.tables.specs.Views.{table_view};
@@ -46,9 +46,9 @@ impl Levels {
 
     // Whether an option of a use is ruled out: both are open, and were the use worth so much, none of the levels would
     // lie there.
-    fn rule_out(self, settings: Settings, options: Options, worth: i32) -> bool
+    pub(crate) fn rule_out(self, settings: Settings, options: Options, worth: i32) -> bool
         requires { Small worth }
-        ensures { result ≡ ruled_out settings options self.highest self.lowest worth }
+        ensures { result ≡ ((options.active && options.idle) && missed settings ((self.highest -ℤ high_of options) +ℤ worth) ((self.lowest -ℤ low_of options) +ℤ worth)) }
     {
         let highest = self.highest - options.high() + worth;
         let lowest = self.lowest - options.low() + worth;
