@@ -1,6 +1,6 @@
 -- The limits of a yard: two bunkers and a weighbridge.
 use Rattle.std.specs.Prelude.{◌≡◌}
-use Rattle.bunker.specs.Forms.{moves_kilos}
+use Rattle.bunker.specs.Ranges.{moves_kilos}
 use Rattle.bunker.specs.Records.{bunker_uses}
 use Rattle.bunker.specs.declared.bunkers.Bunker.{Bunker}
 use Rattle.bunker_laws.specs.Bunkers.{meaning as bunkerMeaning}
@@ -22,7 +22,7 @@ abbrev pub LimitSettings : Type 0
 LimitSettings = Settings × (Settings × Unit)
 
 abbrev pub settings_of : Limits → LimitSettings
-settings_of y = (y.left.stock.settings, (y.right.left.stock.settings, tt))
+settings_of y = (y.left.settings, (y.right.left.settings, tt))
 
 -- the uses by place: 0 and 1 are the bunkers', 2 the weighbridge's
 abbrev pub uses_of : Limits → Uses

@@ -17,7 +17,7 @@ pub type Yard = Pair<Bunker, Pair<Bunker, Weighbridge>>;
 
 // A bunker of these settings in which no use stands.
 fn bunker_of(heap: Global, settings: Settings) -> Result<Bunker, Refusal>
-    ensures { MatchResult result (λ b. Alike settings b.stock.settings × (bunker_uses b ≡ none)) (λ e. e ≡ OutOfMemory) }
+    ensures { MatchResult result (λ b. Alike settings b.settings × (bunker_uses b ≡ none)) (λ e. e ≡ OutOfMemory) }
 {
     Bunker::new(heap, settings.floor, settings.roof, settings.start)
 }
