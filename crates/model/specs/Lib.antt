@@ -7,3 +7,4 @@ pub mod Narrowings
 pub mod Plans
 pub mod Refusals
 pub mod Uses
+pub mod Verdicts

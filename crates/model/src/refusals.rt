@@ -1,6 +1,9 @@
 // Why a call or a line of a file is turned away.
 ghost use Rattle.std.specs.Prelude.{◌≡◌};
 ghost use Rattle.model.specs.Refusals.{number_of};
+ghost use Rattle.model.specs.declared.refusals.Refusal.TheVariants.{OutOfMemory};
+
+use std::alloc::AllocError;
 
 // One case for each cause. docs/FORMATS.md has the numbers under which people know them.
 #[derive(Clone, Copy, Debug, PartialEq, Eq)]
@@ -94,5 +97,13 @@ impl Refusal {
             Refusal::OutOfMemory => return None,
         };
         Some(number)
+    }
+}
+
+impl From<AllocError> for Refusal {
+    ghost from_gives = { λ _ r. r ≡ OutOfMemory };
+
+    fn from(_error: AllocError) -> Refusal {
+        Self::OutOfMemory
     }
 }
