@@ -1,5 +1,5 @@
 -- What stands among the records that are gathered by rising number.
-use Rattle.std.proofs.Common.{◌≡◌, ℕ, zero, suc, ◌<◌, List, [], ◌∷◌, ◌++◌, Some, None, Option, refl, inl, inr, ⊎_elim}
+use Rattle.std.proofs.Common.{◌≡◌, ℕ, zero, suc, ◌<◌, Some, None, Option, refl, inl, inr, ⊎_elim}
 use Rattle.std.specs.Option.{option_to_list}
 use Rattle.model.proofs.Members.{in_either}
 use Rattle.model.specs.Plans.{View}

@@ -3,4 +3,3 @@ pub mod Gathers
 pub mod Members
 pub mod Narrowings
 pub mod Pairs
-mod Texts

@@ -1,10 +1,8 @@
 -- Closed tables, the plans that obey, and the verdict.
-use Rattle.std.specs.Prelude.{◌≡◌, ℕ, ◌<◌, ◌⊎◌, ℤ, pos, ◌+ℤ◌, ◌≤ℤ◌, ◌<ℤ◌, Some, Option}
+use Rattle.std.specs.Prelude.{◌≡◌, ℕ, ◌<◌, ℤ, pos, ◌+ℤ◌, ◌≤ℤ◌, ◌<ℤ◌, Some, Option}
 use Rattle.model.specs.Meanings.{Meaning}
-use Rattle.model.specs.Plans.{Plan, PlanOf, View, Within, Meets, Sound, Tighter}
+use Rattle.model.specs.Plans.{Plan, PlanOf, View, Within, Sound, Tighter}
 use Rattle.model.specs.declared.slips.Distance.{Distance}
-use Rattle.model.specs.declared.verdicts.Verdict.{Verdict}
-use Rattle.model.specs.declared.verdicts.Verdict.TheVariants.{NoPlan, Open, AnyPlan}
 
 -- the distance slips that stand, by number
 abbrev pub Slips : Type 0

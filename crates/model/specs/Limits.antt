@@ -1,5 +1,5 @@
 -- When a limit takes a use, and when it gives one up.
-use Rattle.std.specs.Prelude.{ℕ, ◌-◌, min, Bool, false, cond, not, ◌&&◌, length, ℤ, pos, negsuc, is_some, Some, None, Ok, Err, Option, Result, ◌==◌, nat_le, nat_lt}
+use Rattle.std.specs.Prelude.{ℕ, ◌-◌, min, Bool, false, cond, ◌&&◌, length, ℤ, pos, negsuc, is_some, Some, None, Ok, Err, Option, Result, ◌==◌, nat_le, nat_lt}
 use Rattle.model.specs.Uses.{Uses, standing}
 use Rattle.model.specs.declared.refusals.Refusal.{Refusal}
 use Rattle.model.specs.declared.refusals.Refusal.TheVariants.{NoPlace, BadUse, NumberStands, UsesFull, NotStanding}

@@ -1,5 +1,5 @@
 -- What a rule means, and the laws that tie what it tells of a table to the plans that it allows.
-use Rattle.std.specs.Prelude.{◌≡◌, ℕ, ◌-◌, ◌<◌, cond, ◌⊎◌, ℤ, pos, negsuc, ◌≤ℤ◌, IfSome, None, Option, nat_lt}
+use Rattle.std.specs.Prelude.{ℕ, ◌-◌, ◌<◌, cond, ◌⊎◌, ℤ, negsuc, ◌≤ℤ◌, IfSome, None, Option, nat_lt}
 use Rattle.model.specs.Plans.{Plan, PlanOf, View, Within, Meets, Sound, Tighter, table_of}
 use Rattle.model.specs.Uses.{Uses, Holds}
 use Rattle.model.specs.declared.moments.Moment.{Moment}
