@@ -62,7 +62,7 @@ pub enum Refusal {
     UnknownLabel,
     // the buffer is too short for the output
     BufferShort,
-    // there is no memory to make a bunker, a weighbridge or a sheet
+    // there is no memory
     OutOfMemory,
 }
 

@@ -1,5 +1,5 @@
 // What a tightened sheet says of the plans within its bounds.
-ghost use Rattle.std.specs.Prelude.{◌≡◌};
+ghost use Rattle.std.specs.Prelude.{◌≡◌, Some};
 ghost use Rattle.model.specs.Verdicts.{word_of};
 
 use std::fmt;
@@ -28,6 +28,8 @@ impl Verdict {
 }
 
 impl fmt::Display for Verdict {
+    ghost output = { λ v. Some (word_of v) };
+
     fn fmt<W: fmt::Write>(&self, f: &mut fmt::Formatter<W>) -> fmt::Result {
         f.write_str(self.word())
     }

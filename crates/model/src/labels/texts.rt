@@ -5,7 +5,7 @@ ghost use Rattle.model.specs.Bytes.{label_byte};
 ghost use Rattle.model.specs.Labels.{is_label, text_of};
 ghost use Rattle.model.specs.declared.refusals.Refusal.TheVariants.{BadLabel};
 
-use super::Label;
+use super::{Label, MOST_BYTES};
 use crate::refusals::Refusal;
 
 fn is_label_byte(b: u8) -> bool
@@ -26,10 +26,10 @@ impl Label {
         ensures { MatchResult result (λ l. (is_label text.now ≡ true) × (text_of l ≡ text.now)) (λ e. (e ≡ BadLabel) × (is_label text.now ≡ false)) }
     {
         let len = text.len();
-        if len == 0 || len > 8 || !has_label_bytes(text) {
+        if len == 0 || len > MOST_BYTES || !has_label_bytes(text) {
             return Err(Refusal::BadLabel);
         }
-        let mut bytes = [0u8; 8];
+        let mut bytes = [0u8; MOST_BYTES];
         bytes[..len].copy_from_slice(text);
         Ok(Label { bytes, len })
     }
