@@ -1,7 +1,8 @@
 -- Closing a table point by point: what relaxing through one point keeps, and what it gains.
-use Rattle.std.proofs.Common.{◌≡◌, ℕ, ◌+◌, ◌<◌, Bool, true, false, get_or, ℤ, pos, negsuc, ◌+ℤ◌, ◌≤ℤ◌, Decides, MatchBool, sym, refl, ◌∙◌, inl, inr, arith, below_more}
+use Rattle.std.proofs.Common.{◌≡◌, ℕ, ◌+◌, ◌<◌, true, false, get_or, ℤ, pos, negsuc, ◌+ℤ◌, ◌≤ℤ◌, Result, Ok, Err, IsOk, OnOk, MatchResult, ◌↔◌, sym, refl, ◌∙◌, inl, inr, arith, below_more}
 use lib.Signed.{≤ℤ_refl}
 use Rattle.std.specs.Int.{int_min}
+use Rattle.std.specs.Result.{is_ok}
 use Rattle.std.proofs.lemmas.Int.{ints, clamps}
 use Rattle.std.proofs.lemmas.Bool.{false≢true}
 use Rattle.model.specs.Plans.{View, Sound, Tighter}
@@ -84,11 +85,20 @@ module _ (k : ℕ) (a b : View) (t : Through k a.points a b) (hk : k < a.points)
         stays = stays_closed;
       }
 
--- the same, by whether a way is too short for any table
-pub settles_or_none : (k : ℕ) (a b : View) (r : Bool) → k < a.points → pos 0 ≤ℤ a.at k k → Decides r (LongThrough k a.points a) → (r ≡ true → Through k a.points a b)
-    → MatchBool r (Settles k a b) (NoneUnder a)
-settles_or_none k a b true hk level long through = settles k a b (through refl) hk level (long.0 refl)
-settles_or_none k a b false hk level long through = λ n s u. false≢true (long.1 (long_over_sound a n k hk s u))
+-- the same, by whether relaxing found a way that is too short for any table
+pub settles_or_none : {T E : Type 0} (k : ℕ) (a b : View) (r : Result T E) → k < a.points → pos 0 ≤ℤ a.at k k → IsOk r ↔ LongThrough k a.points a → OnOk r (Through k a.points a b)
+    → MatchResult r (λ _. Settles k a b) (λ _. NoneUnder a)
+settles_or_none k a b (Ok _) hk level long through = settles k a b through hk level (long.0 refl)
+settles_or_none k a b (Err _) hk level long through = λ n s u. false≢true (long.1 (long_over_sound a n k hk s u))
+
+-- what a step of closing gives where it succeeds, and where it fails
+pub settled_at_ok : {T E : Type 0} (k : ℕ) (a b : View) (r : Result T E) → true ≡ is_ok r → MatchResult r (λ _. Settles k a b) (λ _. NoneUnder a) → Settles k a b
+settled_at_ok k a b (Ok _) e h = h
+settled_at_ok k a b (Err _) e h = absurd (false≢true (sym e))
+
+pub none_at_err : {T E : Type 0} (k : ℕ) (a b : View) (r : Result T E) → false ≡ is_ok r → MatchResult r (λ _. Settles k a b) (λ _. NoneUnder a) → NoneUnder a
+none_at_err k a b (Ok _) e h = absurd (false≢true e)
+none_at_err k a b (Err _) e h = h
 
 -- in the midst of closing t: m is t's view relaxed, and closed through the points below q and those that t has settled
 pub record Closing (t : Table) (q : ℕ) (m : View) : Type 0 where

@@ -6,4 +6,5 @@ pub mod Narrows
 mod Written
 mod Starts
 mod Rows
+mod Relaxed
 mod Closing

@@ -1,69 +1,70 @@
 -- The views of bounds that were made or written.
-use Rattle.std.proofs.Common.{◌≡◌, ℕ, ◌+◌, ◌*◌, ◌<◌, ◌≤◌, Bool, true, false, cond, ◌&&◌, ltb, ◌⊎◌, List, length, get_or, set, ℤ, pos, sym, refl, ap, ◌∙◌, subst, inl, inr, arith}
+use Rattle.std.proofs.Common.{◌≡◌, ℕ, ◌+◌, ◌<◌, List, [], length, get_or, set, replicate, ℤ, pos, negsuc, ◌≤ℤ◌, ◌≤◌, refl, ap, ◌∙◌, inl, inr, arith}
 use Rattle.std.specs.Int.{int_min}
-use Rattle.std.proofs.lemmas.List.{get_or-set_same, get_or-set_other}
-use Rattle.std.proofs.lemmas.Bool.{cases_eq, and_parts, ltb-true}
+use Rattle.std.proofs.lemmas.List.{length-set, get_or-replicate, length-replicate, get_or_past, get_or-set_same, get_or-set_other}
+use Rattle.std.proofs.lemmas.Int.{ints}
+use Rattle.std.proofs.lemmas.Bool.{cases_eq, cases_lt}
+use Rattle.std.proofs.lemmas.Bool.Decides.{nat_tests}
+use Rattle.tables.specs.Rows.{bound_in, Within, RowsWithin}
 use Rattle.tables.specs.Views.{bounds_view, even_view, lowered}
 use Rattle.tables.specs.declared.bounds.Bounds.{Bounds}
 use Rattle.tables.proofs.Orders.{same_view}
-use Rattle.tables.proofs.Entries.{pair_cases, at_inside, at_outside}
-use Rattle.tables.proofs.Lowers.{lowered_here, lowered_elsewhere}
+use Rattle.tables.proofs.Entries.{set_by}
 
--- the place of a row and a column says which they are
-place_apart : (p q i j : ℕ) → q < 64 → j < 64 → ((p ≡ i) × (q ≡ j) → ⊥) → (p * 64 + q ≡ i * 64 + j) → ⊥
-place_apart p q i j hq hj n e = n (omega arith, omega arith)
+-- rows of one value
+pub even_within : (v : ℤ) → negsuc 10080 ≤ℤ v → v ≤ℤ pos 10080 → RowsWithin 64 (replicate 64 (replicate 64 v))
+even_within v low high i hi =
+    rw (get_or-replicate 64 i (replicate 64 v) [] hi) (
+      length-replicate 64 v,
+      λ j.
+          elim (cases_lt j 64) [
+            | inl h ↦ rw (get_or-replicate 64 j v (pos 0) h) (low, high)
+            | inr h ↦
+                let past : length (replicate 64 v) ≤ j = omega (arith, length-replicate 64 v) in
+                rw (get_or_past (replicate 64 v) j (pos 0) past) (omega (arith, ints), omega (arith, ints))
+          ],
+    )
 
-cond_agree : (b : Bool) (x y z : ℤ) → (b ≡ true → x ≡ y) → cond b x z ≡ cond b y z
-cond_agree true x y z h = h refl
-cond_agree false x y z h = refl
-
--- an array of one value
-pub even_view_holds : (b : Bounds) (v : ℤ) → ((k : ℕ) → k < 4096 → get_or b.entries k (pos 10080) ≡ v) → bounds_view b ≡ even_view b.points v
+pub even_view_holds : (b : Bounds) (v : ℤ) → ((i j : ℕ) → i < 64 → j < 64 → bound_in b.entries i j ≡ v) → bounds_view b ≡ even_view b.points v
 unfolding bounds_view
-even_view_holds b v h =
-    same_view (bounds_view b) (even_view b.points v) refl
-    (λ i j.
-    cond_agree (ltb i b.points && ltb j b.points) (get_or b.entries (i * 64 + j) (pos 10080)) v (pos 10080)
-    (λ e.
-    let inside = and_parts _ _ e in
-    let hi : i < b.points = ltb-true _ _ inside.0 in
-    let hj : j < b.points = ltb-true _ _ inside.1 in
-    h (i * 64 + j) (omega (arith, b.few))))
+even_view_holds b v h = same_view (bounds_view b) (even_view b.points v) refl (λ i j. let few = b.few in grind (arith, nat_tests, h i j))
 
-module _ (b x : Bounds) (i j : ℕ) (v w : ℤ) (ps : x.points ≡ b.points) (es : x.entries ≡ set b.entries (i * 64 + j) w) (long : length b.entries ≡ 4096)
-    (hi : i < b.points) (hj : j < b.points) (least : w ≡ int_min ((bounds_view b).at i j) v) where
-  place_here : (p q : ℕ) → p ≡ i → q ≡ j → (bounds_view x).at p q ≡ (lowered (bounds_view b) i j v).at p q
-  unfolding bounds_view
-  place_here p q ep eq =
-      let inside : i * 64 + j < length b.entries = omega (arith, b.few) in
-      rw (ep, eq)
-      (at_inside x i j (omega arith) (omega arith) ∙ ap (λ (xs : List ℤ). get_or xs (i * 64 + j) (pos 10080)) es ∙ get_or-set_same b.entries (i * 64 + j) w (pos 10080) inside
-      ∙ least ∙ sym (lowered_here (bounds_view b) i j v hi hj))
+-- rows of which the bound w is written in row i at j
+module _ (rows : List (List ℤ)) (i j : ℕ) (w : ℤ) where
+  written_here : i < length rows → j < length (get_or rows i []) → bound_in (set rows i (set (get_or rows i []) j w)) i j ≡ w
+  written_here hi hj = rw (get_or-set_same rows i (set (get_or rows i []) j w) [] hi) (get_or-set_same (get_or rows i []) j w (pos 0) hj)
 
-  place_elsewhere : (p q : ℕ) → ((p ≡ i) × (q ≡ j) → ⊥) → (bounds_view x).at p q ≡ (bounds_view b).at p q
-  unfolding bounds_view
-  place_elsewhere p q n =
-      elim (pair_cases b.points p q) [
-        | inl h ↦
-            let hp : p < x.points = omega arith in
-            let hq : q < x.points = omega arith in
-            let apart = place_apart p q i j (omega (arith, b.few)) (omega (arith, b.few)) n in
-            at_inside x p q hp hq ∙ ap (λ (xs : List ℤ). get_or xs (p * 64 + q) (pos 10080)) es ∙ get_or-set_other b.entries (i * 64 + j) (p * 64 + q) w (pos 10080) apart
-            ∙ sym (at_inside b p q h.0 h.1)
-        | inr h ↦ at_outside x p q (subst (λ (k : ℕ). (k ≤ p) ⊎ (k ≤ q)) (sym ps) h) ∙ sym (at_outside b p q h)
+  written_elsewhere : i < length rows → (p q : ℕ) → ((p ≡ i) × (q ≡ j) → ⊥) → bound_in (set rows i (set (get_or rows i []) j w)) p q ≡ bound_in rows p q
+  written_elsewhere hi p q n =
+      elim (cases_eq p i) [
+        | inl ep ↦ rw (ep, get_or-set_same rows i (set (get_or rows i []) j w) [] hi) (get_or-set_other (get_or rows i []) j q w (pos 0) (λ eq. n (ep, eq)))
+        | inr np ↦ ap (λ (row : List ℤ). get_or row q (pos 0)) (get_or-set_other rows i p (set (get_or rows i []) j w) [] np)
       ]
 
-  -- one place of the array written
-  pub written : bounds_view x ≡ lowered (bounds_view b) i j v
-  unfolding bounds_view
-  written =
-      same_view (bounds_view x) (lowered (bounds_view b) i j v) ps
-      (λ p q.
-      elim (cases_eq p i) [
-        | inl ep ↦
-            elim (cases_eq q j) [
-              | inl eq ↦ place_here p q ep eq
-              | inr n ↦ place_elsewhere p q (λ z. n z.1) ∙ sym (lowered_elsewhere (bounds_view b) i j v p q (λ z. n z.1))
-            ]
-        | inr n ↦ place_elsewhere p q (λ z. n z.0) ∙ sym (lowered_elsewhere (bounds_view b) i j v p q (λ z. n z.0))
-      ])
+  pub written_within : RowsWithin 64 rows → i < 64 → negsuc 10080 ≤ℤ w → w ≤ℤ pos 10080 → RowsWithin 64 (set rows i (set (get_or rows i []) j w))
+  written_within within hi low high =
+      let row = within i hi in
+      set_by 64 rows i (set (get_or rows i []) j w) [] (λ (xs : List ℤ). (length xs ≡ 64) × Within xs)
+      (length-set (get_or rows i []) j w ∙ row.0, λ q. set_by (q + 1) (get_or rows i []) j w (pos 0) (λ x. (negsuc 10080 ≤ℤ x) × (x ≤ℤ pos 10080)) (low, high) (λ k h. row.1 k) q (omega arith))
+      within
+
+-- one bound written
+pub written : (b x : Bounds) (i j : ℕ) (v w : ℤ) → x.points ≡ b.points → x.entries ≡ set b.entries i (set (get_or b.entries i []) j w) → length b.entries ≡ 64
+    → i < (bounds_view b).points → j < (bounds_view b).points → w ≡ int_min ((bounds_view b).at i j) v → bounds_view x ≡ lowered (bounds_view b) i j v
+unfolding bounds_view
+written b x i j v w ps es long hi hj least =
+    let few = b.few in
+    let wide = (b.within i (omega arith)).0 in
+    let here : bound_in x.entries i j ≡ w = ap (λ (rows : List (List ℤ)). bound_in rows i j) es ∙ written_here b.entries i j w (omega arith) (omega arith) in
+    same_view (bounds_view x) (lowered (bounds_view b) i j v) ps
+    (λ p q.
+    let other : ((p ≡ i) × (q ≡ j) → ⊥) → bound_in x.entries p q ≡ bound_in b.entries p q =
+    λ n. ap (λ (rows : List (List ℤ)). bound_in rows p q) es ∙ written_elsewhere b.entries i j w (omega arith) p q n
+    in
+    elim (cases_eq p i) [
+      | inl ep ↦ elim (cases_eq q j) [
+        | inl eq ↦ rw (ep, eq) (grind (arith, nat_tests))
+        | inr n ↦ let same = other (λ z. n z.1) in grind (arith, nat_tests)
+      ]
+      | inr n ↦ let same = other (λ z. n z.0) in grind (arith, nat_tests)
+    ])

@@ -1,13 +1,19 @@
 -- The tables that calls make and leave.
 use Rattle.std.specs.Prelude.{ℕ, cond, ◌&&◌, ◌||◌, ℤ, pos, ◌==◌, nat_lt}
 use Rattle.std.specs.Int.{int_min}
+use Rattle.model.specs.Narrowings.{Narrowed}
 use Rattle.model.specs.Plans.{View}
 unfoldable pub use Rattle.tables.specs.Entries.{bounds_view}
+use Rattle.tables.specs.declared.bounds.Bounds.{Bounds}
 use Rattle.tables.specs.declared.tables.Table.{Table}
 
 -- what a table holds
 abbrev pub table_view : Table → View
 table_view t = bounds_view t.bounds
+
+-- the bounds that are given narrow these
+abbrev pub Lowers : (ℕ → ℕ → ℤ → Type 0) → Bounds → Bounds → Type 0
+Lowers given before after = Narrowed given (bounds_view before) (bounds_view after)
 
 -- the entry at (i, j), where m has it, becomes the lesser of itself and v
 abbrev pub lowered : View → ℕ → ℕ → ℤ → View

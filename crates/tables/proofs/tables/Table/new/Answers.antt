@@ -11,7 +11,7 @@ invariant_of-result c =
     let is = sym c.start.ensures in
     let closed = subst (λ (x : View). (k : ℕ) → k < x.points → ClosedThrough k x) is (start_closed n h) in
     record {
-      some = subst (λ (x : View). 0 < x.points) is (omega arith);
+      some = subst (λ (x : View). 0 < x.points) is (grind arith);
       low = subst (λ (x : View). (p q : ℕ) → negsuc 10079 ≤ℤ x.at p q) is (start_low n h);
       diagonal = subst (λ (x : View). (p : ℕ) → p < x.points → x.at p p ≤ℤ pos 0) is (start_diagonal n h);
       through = ∣ (λ k i j h. closed k h.1 i j h.2 h.3) ∣₁;
