@@ -1,6 +1,6 @@
 -- What a tightened table says of the plans that obey.
 use Rattle.std.proofs.Common.{◌≡◌, ℕ, ◌<◌, ◌≤◌, pos, ◌+ℤ◌, ◌-ℤ◌, nat_abs, ◌≤ℤ◌, Some, sym, refl, ◌∙◌, subst, arith}
-use Rattle.std.proofs.lemmas.Int.{ints, by_lt_z}
+use Rattle.std.proofs.lemmas.Int.{ints}
 use Rattle.model.proofs.Entries.{plan_entry}
 use Rattle.model.specs.Closed.{Slips, SlipsHeld, Closed, NoneClosed, Tightened, Obeys, Loose}
 use Rattle.model.specs.Meanings.{Meaning, Lawful}
@@ -35,7 +35,7 @@ module _ (h n : ℕ) (slips : Slips) (r : Meaning) (us : Uses) (lawful : Lawful 
     triangle i j k a b c = sound.triangle i j k (inside i a) (inside j b) (inside k c)
 
     tied : (p : ℕ) → p < n → (m.at 0 p +ℤ m.at p 0) ≤ℤ pos 0
-    tied p a = by_lt_z (pos 0) (m.at 0 p +ℤ m.at p 0) (λ l. absurd (fast p a l)) (λ l. l)
+    tied p a = grind (arith, ints, fast p a)
 
     -- 0 ≤ m(0, p) + m(p, 0) ≤ m(0, p)
     row : (p : ℕ) → p < n → pos (first p) ≡ m.at 0 p

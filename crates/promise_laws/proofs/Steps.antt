@@ -34,17 +34,13 @@ module _ (h n : ℕ) (slips : Slips) (r : Meaning) where
     below = λ i j a b.
         let c : i < n = omega (arith, closed.points) in
         let d : j < n = omega (arith, closed.points) in
-        by_entry i j c d (wide i j c d);
+        let zero : i ≡ j → k.at i j ≡ pos 0 = λ e. rw (← e) (closed.sound.zero i a) in
+        let opening : j ≡ 0 → k.at i j ≤ℤ pos 0 = λ e. rw e (closed.opening i c) in
+        ⊎_elim
+        (λ l. omega (arith, ints, closed.short i j c d))
+        (λ w. ⊎_elim (λ e. omega (arith, ints, zero e, w.1)) (λ e. omega (arith, ints, opening e, w.1)) w.0)
+        (wide i j c d);
   }
-    where
-      by_entry : (i j : ℕ) → i < n → j < n → (pos h ≤ℤ m.at i j) ⊎ (((i ≡ j) ⊎ (j ≡ 0)) × (pos 0 ≤ℤ m.at i j)) → k.at i j ≤ℤ m.at i j
-      by_entry i j a b (inl l) = omega (arith, ints, closed.short i j a b)
-      by_entry i j a b (inr (inl e, l)) =
-          let z : k.at i j ≡ pos 0 = rw (← e) (closed.sound.zero i (omega (arith, closed.points))) in
-          omega (arith, ints)
-      by_entry i j a b (inr (inr e, l)) =
-          let z : k.at i j ≤ℤ pos 0 = rw e (closed.opening i a) in
-          omega (arith, ints)
 
   -- ---- entries lowered
 

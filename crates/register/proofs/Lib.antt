@@ -1,4 +1,5 @@
+pub mod Gathered
+pub mod Looks
 pub mod Puts
 pub mod Rising
-pub mod Looks
-pub mod Gathered
+pub mod Searches

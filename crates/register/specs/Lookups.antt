@@ -1,5 +1,6 @@
 -- What stands under a number in a list of numbered records, and the order of the numbers.
-use Rattle.std.specs.Prelude.{ℕ, ◌<◌, ◌≤◌, cond, List, [], ◌∷◌, map, length, Some, None, Option, ◌==◌, slice_index}
+use Rattle.std.specs.Prelude.{ℕ, ◌<◌, ◌≤◌, cond, List, [], ◌∷◌, map, length, IsTrue, All, AllPairs, Some, None, Option, ◌==◌, slice_index}
+use Rattle.register.specs.Numbers.{is_number}
 use Rattle.register.specs.declared.records.Numbered.{Numbered}
 use Rattle.std.specs.Option.{option_map}
 
@@ -30,21 +31,13 @@ module _ {T : Type 0} where
   abbrev pub numbered : (ℕ → Option T) → ℕ → Option (Numbered T)
   numbered f k = option_map (λ x. record { number = k; what = x }) (f k)
 
--- a slip number
-abbrev pub InRange : ℕ → Type 0
-InRange n = (1 ≤ n) × (n ≤ 9999)
-
 -- the numbers rise strictly
 abbrev pub Rises : List ℕ → Type 0
-Rises ns = (i j : ℕ) → i < j → j < length ns → slice_index ns i < slice_index ns j
+Rises ns = AllPairs (λ m n. m < n) ns
 
--- every number is at least 1
-abbrev pub FromOne : List ℕ → Type 0
-FromOne ns = (i : ℕ) → i < length ns → 1 ≤ slice_index ns i
-
--- every number is at most 9,999
-abbrev pub UpToLast : List ℕ → Type 0
-UpToLast ns = (i : ℕ) → i < length ns → slice_index ns i ≤ 9999
+-- every number is a slip number
+abbrev pub Proper : List ℕ → Type 0
+Proper ns = All (λ n. IsTrue (is_number n)) ns
 
 -- the number n would come at the place i
 pub record Gap (ns : List ℕ) (n i : ℕ) : Type 0 where

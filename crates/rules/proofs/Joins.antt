@@ -1,57 +1,28 @@
--- How the calls of a pair follow from those of the part that has the place.
-use Rattle.std.proofs.Common.{◌≡◌, ℕ, ◌+◌, ◌-◌, ◌<◌, ◌≤◌, Bool, true, false, cond, ltb, is_some, Some, None, Decides, Option, sym, ap, ◌∙◌, ⊎_elim, arith}
+-- What holds of the two parts of a pair holds of the pair.
+use Rattle.std.proofs.Common.{◌≡◌, ℕ, ◌+◌, ◌-◌, ◌<◌, ◌≤◌, Bool, true, false, is_some, Decides, None, sym, subst, ⊎_elim, arith}
 use Rattle.std.proofs.lemmas.Bool.{cases_lt, lt-ltb, le-ltb}
-use Rattle.std.proofs.lemmas.Bool.Decides.{not_from_Decides, nat_tests}
-use Rattle.model.proofs.Pairs.{put_front, put_back}
-use Rattle.model.specs.Limits.{places_of, behind, not_taken, of_part}
-use Rattle.model.specs.Uses.{Uses, put, joined}
-use Rattle.model.specs.declared.slips.Use.{Use}
+use Rattle.std.proofs.lemmas.Bool.Decides.{not_from_Decides}
+use Rattle.model.proofs.Pairs.{front_joined, back_joined}
+use Rattle.model.specs.Meanings.{Meaning}
+use Rattle.model.specs.Uses.{Uses, joined, front, back}
+use Rattle.rules.specs.Calls.{AnyUse}
+use Rattle.rules.specs.declared.rule.Rule.{Ghosts}
 
--- ---- which part has the place
+-- what holds of the meanings of two rules holds of them over the uses that their pair hands them
+module _ {A B S Z : Type 0} (left : Ghosts A S) (right : Ghosts B Z) (x : A) (y : B) (beyond : (q : ℕ) → left.width (left.settings x) ≤ q → left.uses x q ≡ (λ k. None)) where
+  abbrev width : ℕ
+  width = left.width (left.settings x)
 
-pub in_first : (w place : ℕ) (o : Option ℕ) → o ≡ behind w place → o ≡ None → place < w
-in_first w place o e n = grind (arith, nat_tests)
+  abbrev uses : Uses
+  uses = joined width (left.uses x) (right.uses y)
 
-pub in_second : (w place rest : ℕ) (o : Option ℕ) → o ≡ behind w place → o ≡ Some rest → (w ≤ place) × (rest ≡ place - w)
-in_second w place rest o e n = grind (arith, nat_tests)
+  pub handed : (P : Meaning → Meaning → Type 0) → P (left.meaning (left.settings x) (left.uses x)) (right.meaning (right.settings y) (right.uses y)) → P (left.meaning (left.settings x) (front width uses)) (right.meaning (right.settings y) (back width uses))
+  handed P h =
+      subst (λ us. P (left.meaning (left.settings x) us) (right.meaning (right.settings y) (back width uses))) (sym (front_joined width (left.uses x) (right.uses y) beyond))
+      (subst (λ us. P (left.meaning (left.settings x) (left.uses x)) (right.meaning (right.settings y) us)) (sym (back_joined width (left.uses x) (right.uses y))) h)
 
--- ---- taking a use
-
-module _ (v w : ℕ) (most-v most-w : ℕ → ℕ) (form-v form-w : ℕ → Use → Bool) (a b : Uses) (place number : ℕ) (u : Use) (reached : place < 64) where
-  pub taken_first : place < v → not_taken v most-v form-v a place number u ≡ not_taken (v + w) (of_part v most-v most-w) (of_part v form-v form-w) (joined v a b) place number u
-  taken_first h =
-      let here : ltb place v ≡ true = lt-ltb place v h in
-      let part : ltb place (places_of v) ≡ true = lt-ltb place (places_of v) (omega arith) in
-      let whole : ltb place (places_of (v + w)) ≡ true = lt-ltb place (places_of (v + w)) (omega arith) in
-      rw (part, whole, here)
-
-  same_reach : v ≤ place → ltb (place - v) (places_of w) ≡ ltb place (places_of (v + w))
-  same_reach h = ⊎_elim
-      (λ (l : place < v + w). lt-ltb (place - v) (places_of w) (omega arith) ∙ sym (lt-ltb place (places_of (v + w)) (omega arith)))
-      (λ (l : v + w ≤ place). le-ltb (place - v) (places_of w) (omega arith) ∙ sym (le-ltb place (places_of (v + w)) (omega arith)))
-      (cases_lt place (v + w))
-
-  pub taken_second : v ≤ place → not_taken w most-w form-w b (place - v) number u ≡ not_taken (v + w) (of_part v most-v most-w) (of_part v form-v form-w) (joined v a b) place number u
-  taken_second h =
-      let there : ltb place v ≡ false = le-ltb place v h in
-      rw (same_reach h, there)
-
--- ---- the uses after a call
-
-pub uses_first : (v v' : ℕ) (a a' b : Uses) (ok : Bool) (place number : ℕ) (o : Option Use) → v' ≡ v → place < v → a' ≡ cond ok (put a place number o) a → joined v' a' b ≡ cond ok (put (joined v a b) place number o) (joined v a b)
-uses_first v v' a a' b true place number o same h e = ap (λ n. joined n a' b) same ∙ (ap (λ us. joined v us b) e ∙ sym (put_front v a b place number o h))
-uses_first v v' a a' b false place number o same h e = ap (λ n. joined n a' b) same ∙ ap (λ us. joined v us b) e
-
-pub uses_second : (v : ℕ) (a b b' : Uses) (ok : Bool) (place number : ℕ) (o : Option Use) → v ≤ place → b' ≡ cond ok (put b (place - v) number o) b → joined v a b' ≡ cond ok (put (joined v a b) place number o) (joined v a b)
-uses_second v a b b' true place number o h e = ap (λ us. joined v a us) e ∙ sym (put_back v a b place number o h)
-uses_second v a b b' false place number o h e = ap (λ us. joined v a us) e
-
--- ---- whether any use stands
-
-abbrev some_use : Uses → Type 0
-some_use us = (place : ℕ) × (number : ℕ) × (is_some (us place number) ≡ true)
-
-pub any_in_second : (n : ℕ) (a b : Uses) (x y : Bool) → x ≡ false → Decides x (some_use a) → Decides y (some_use b) → Decides y (some_use (joined n a b))
+-- a use of the second stands behind the places of the first
+pub any_in_second : (n : ℕ) (a b : Uses) (x y : Bool) → x ≡ false → Decides x (AnyUse a) → Decides y (AnyUse b) → Decides y (AnyUse (joined n a b))
 any_in_second n a b x y e d f = (λ h. let w = f.0 h in (n + w.0, w.1, shown w.0 w.1 w.2), λ w. found w.0 w.1 w.2)
   where
     shown : (q k : ℕ) → is_some (b q k) ≡ true → is_some (joined n a b (n + q) k) ≡ true

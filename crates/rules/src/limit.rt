@@ -1,8 +1,9 @@
 // What a limit has to tell and to do beyond a rule.
-ghost use Rattle.std.specs.Prelude.{◌≡◌, ℕ, ◌≤◌, Bool, true, cond, length, is_some, is_ok, Some, None, Decides};
+ghost use Rattle.std.specs.Prelude.{◌≡◌, ℕ, ◌≤◌, Bool, length, Some, None, Decides};
 ghost use Rattle.model.specs.Limits.{places_of, not_taken, not_given_up, answer};
-ghost use Rattle.model.specs.Uses.{put, standing};
+ghost use Rattle.model.specs.Uses.{standing};
 ghost use Rattle.model.specs.declared.slips.Use.{Use};
+ghost use Rattle.rules.specs.Calls.{AnyUse, put_if_ok};
 
 use crate::rule::Rule;
 use model::refusals::Refusal;
@@ -26,19 +27,19 @@ pub trait Limit: Rule {
 
     // Whether any use stands in it, one in a place out of reach included.
     fn any_use(&self) -> bool
-        ensures { Decides result ((place : ℕ) × (number : ℕ) × (is_some (Self.uses self.now place number) ≡ true)) };
+        ensures { Decides result (AnyUse (Self.uses self.now)) };
 
     // Takes a use at a place under a slip number: that use alone is added. A refusal leaves all as it was.
     fn take(&mut self, place: usize, number: u32, what: Use) -> Result<(), Refusal>
         ensures settings { Self.settings self.new ≡ Self.settings self.old }
-        ensures answer { result ≡ answer (not_taken (Self.width (Self.settings self.old)) (most (Self.settings self.old)) (form (Self.settings self.old)) (Self.uses self.old) place number what) }
-        ensures uses { Self.uses self.new ≡ cond (is_ok result) (put (Self.uses self.old) place number (Some what)) (Self.uses self.old) };
+        ensures answer { let s = Self.settings self.old in result ≡ answer (not_taken (Self.width s) (most s) (form s) (Self.uses self.old) place number what) }
+        ensures uses { Self.uses self.new ≡ put_if_ok result (Self.uses self.old) place number (Some what) };
 
     // Gives up the use of that number at a place: that use alone is removed. A refusal leaves all as it was.
     fn give_up(&mut self, place: usize, number: u32) -> Result<(), Refusal>
         ensures settings { Self.settings self.new ≡ Self.settings self.old }
         ensures answer { result ≡ answer (not_given_up (Self.width (Self.settings self.old)) (Self.uses self.old) place number) }
-        ensures uses { Self.uses self.new ≡ cond (is_ok result) (put (Self.uses self.old) place number None) (Self.uses self.old) };
+        ensures uses { Self.uses self.new ≡ put_if_ok result (Self.uses self.old) place number None };
 
     // No more than a place's most uses stand there.
     ghost few: { (x : Self) (place : ℕ) → length (standing (Self.uses x place)) ≤ most (Self.settings x) place };

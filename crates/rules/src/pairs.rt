@@ -1,4 +1,5 @@
-// A pair is a rule where its parts are, and a limit where they are.
+// A pair is a rule where its parts are, and a limit where they are. Each call on a place is a match: the parts differ in type, so
+// a method that picked the part would take a closure for each.
 ghost use Rattle.std.specs.Prelude.{◌+◌};
 ghost use Rattle.model.specs.Limits.{of_part};
 ghost use Rattle.model.specs.Meanings.{both};
@@ -11,12 +12,9 @@ use crate::pair::Pair;
 use crate::rule::Rule;
 use model::moments::Moment;
 use model::refusals::Refusal;
-use model::slips::Use;
+use model::slips::{MOST_PLACES, Use};
 use tables::bounds::Bounds;
 use tables::tables::Table;
-
-// The most places that a limit has: none beyond the 64th can be reached.
-const MOST_PLACES: usize = 64;
 
 impl<A: Rule, B: Rule> Rule for Pair<A, B> {
     type Settings = (A::Settings, B::Settings);
@@ -34,10 +32,7 @@ impl<A: Rule, B: Rule> Rule for Pair<A, B> {
     ghost beyond = { Prim.search rules };
 
     fn past(&self, place: usize) -> Option<usize> {
-        match self.left.past(place) {
-            None => None,
-            Some(rest) => self.right.past(rest),
-        }
+        self.right.past(self.left.past(place)?)
     }
 
     fn refuses(&self, table: &Table) -> bool {

@@ -2,9 +2,8 @@
 ghost use Rattle.std.specs.Prelude.{◌≡◌, ℕ, ◌≤◌, None, Decides};
 ghost use Rattle.model.specs.Limits.{behind};
 ghost use Rattle.model.specs.Meanings.{Meaning, Lawful};
-ghost use Rattle.model.specs.Narrowings.{Narrowed};
 ghost use Rattle.model.specs.Uses.{Uses};
-ghost use Rattle.tables.specs.Views.{bounds_view, table_view};
+ghost use Rattle.tables.specs.Views.{table_view, Lowers};
 
 use model::moments::Moment;
 use tables::bounds::Bounds;
@@ -38,9 +37,9 @@ pub trait Rule {
 
     // Lowers each bound to the least that it gives for the pair under the table.
     fn lower(&self, table: &Table, bounds: &mut Bounds)
-        ensures { Narrowed ((meaning (settings self.now) (uses self.now)).gives (table_view table.now)) (bounds_view bounds.old) (bounds_view bounds.new) };
+        ensures { Lowers ((meaning (settings self.now) (uses self.now)).gives (table_view table.now)) bounds.old bounds.new };
 
-    // The highest and the lowest level of a place at a moment, or None where it has no level.
+    // The highest and the lowest level of a place at a moment, or None where it has no level: a pair, as `Meaning` has it.
     fn levels(&self, table: &Table, place: usize, at: Moment) -> Option<(i32, i32)>
         ensures { result ≡ (meaning (settings self.now) (uses self.now)).levels (table_view table.now) place at };
 

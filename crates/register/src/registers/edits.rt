@@ -1,11 +1,11 @@
 // What is done with a register.
-ghost use Rattle.std.specs.Prelude.{◌≡◌, length, IfOk, None, MatchBool, MatchResult, ◌==◌, ◌≢◌};
+ghost use Rattle.std.specs.Prelude.{◌≡◌, length, map, IfOk, IfErr, None, MatchBool, MatchResult, ◌==◌, ◌≢◌};
 ghost use Rattle.model.specs.Uses.{standing};
-ghost use Rattle.register.specs.Lookups.{nothing, numbered, put_at};
-ghost use Rattle.register.specs.Standing.{items_of, stands, Seats, Accepts, Refuses};
+ghost use Rattle.register.specs.Lookups.{nothing, what_of, numbered, put_at};
+ghost use Rattle.register.specs.Standing.{items_of, stands, IsAt, IsGapFor, Accepts, Refuses};
 
 use super::{NoInsert, Register};
-use crate::records::{LAST_NUMBER, Numbered};
+use crate::records::{Numbered, is_slip_number};
 use std::alloc::{AllocError, Global};
 
 impl<T: Copy, const MOST: usize> Register<T, MOST> {
@@ -21,6 +21,7 @@ impl<T: Copy, const MOST: usize> Register<T, MOST> {
     pub fn as_slice(&self) -> &[Numbered<T>]
         ensures items { result.now ≡ items_of self.now }
         ensures gathered { result.now ≡ standing (numbered (stands self.now)) }
+        ensures unnumbered { map what_of result.now ≡ standing (stands self.now) }
     {
         self.items.as_slice()
     }
@@ -42,43 +43,35 @@ impl<T: Copy, const MOST: usize> Register<T, MOST> {
 
     // The place of the record under `number`, or else the place where it would be.
     fn seat(&self, number: u32) -> Result<usize, usize>
-        ensures { Seats self.now number result }
+        ensures found { IfOk result (IsAt self.now number) }
+        ensures absent { IfErr result (IsGapFor self.now number) }
     {
-        let items = self.as_slice();
-        for (i, x) in items.iter().enumerate() {
-            if x.number == number {
-                return Ok(i);
-            }
-            if x.number > number {
-                return Err(i);
-            }
-        }
-        Err(items.len())
+        self.items.binary_search_by_key(&number, |x| x.number)
     }
 
     // The record that stands under `number`.
     pub fn find(&self, number: u32) -> Option<T>
         ensures { result ≡ stands self.now number }
     {
-        match self.seat(number) {
-            Ok(i) => Some(self.items[i].what),
-            Err(_) => None,
-        }
+        let i = self.seat(number).ok()?;
+        Some(self.items[i].what)
     }
 
     // Puts `what` under `number`, or says why not. It never fails for want of memory.
     pub fn insert(&mut self, number: u32, what: T) -> Result<(), NoInsert>
         ensures { MatchResult result (λ _. Accepts self.old self.new number what) (λ e. Refuses self.old number e × (self.new ≡ self.old)) }
     {
-        if number < 1 || number > LAST_NUMBER {
+        if !is_slip_number(number) {
             return Err(NoInsert::OutOfRange);
         }
+        // here an `Ok` is what is refused
         let Err(i) = self.seat(number) else {
             return Err(NoInsert::Stands);
         };
         if self.len() >= MOST {
             return Err(NoInsert::Full);
         }
+        // cannot fail: the room was claimed when the register was made
         let _ = self.items.insert(i, Numbered { number, what });
         Ok(())
     }
@@ -89,10 +82,7 @@ impl<T: Copy, const MOST: usize> Register<T, MOST> {
         ensures after { stands self.new ≡ put_at (stands self.old) number None }
         ensures unchanged { result ≡ None → self.new ≡ self.old }
     {
-        let Ok(i) = self.seat(number) else {
-            return None;
-        };
-        let item = self.items.remove(i);
-        Some(item.what)
+        let i = self.seat(number).ok()?;
+        Some(self.items.remove(i).what)
     }
 }
