@@ -1,12 +1,12 @@
 -- What a bunker tells at minutes that are alike.
-use Rattle.std.proofs.Common.{◌≡◌, ℕ, ◌+◌, ◌<◌, ◌≤◌, ◌||◌, ◌⊎◌, List, ℤ, pos, negsuc, ◌+ℤ◌, ◌-ℤ◌, ◌≤ℤ◌, ◌<ℤ◌, sym, refl, ap, ◌∙◌, subst, inl, inr, ⊎_elim, arith}
+use Rattle.std.proofs.Common.{◌≡◌, ℕ, ◌+◌, ◌<◌, ◌≤◌, ◌||◌, ◌⊎◌, List, ℤ, pos, negsuc, ◌+ℤ◌, ◌-ℤ◌, ◌≤ℤ◌, ◌<ℤ◌, sym, refl, ap, ◌∙◌, subst, inl, inr, ⊎_elim, arith, Bool, true, false, [], ◌∷◌, Option, Some, None, MatchOption, Decides}
 use lib.Signed.{≤ℤ_refl}
 use Rattle.bunker.specs.Following.{FollowsBefore, FollowsEnds}
 use Rattle.bunker.specs.Rooms.{NoRoom, NoRoomBefore}
 use Rattle.bunker_laws.proofs.Sums.{total_same}
 use Rattle.bunker_laws.specs.Bunkers.{delivery, can_be_active, can_be_idle, high, low, highest, lowest, RuledOut, Follows}
 use Rattle.bunker_laws.specs.declared.settings.Settings.{Settings}
-use Rattle.bunker.specs.Stretches.{Alike, Stretch}
+use Rattle.bunker.specs.Stretches.{Alike, LongestFrom}
 use Rattle.model.proofs.Narrowings.{narrowed_then}
 use Rattle.model.specs.Narrowings.{Narrowed}
 use Rattle.model.specs.Plans.{View}
@@ -14,8 +14,18 @@ use Rattle.model.specs.Uses.{In}
 use Rattle.model.specs.declared.moments.Moment.{Moment}
 use Rattle.model.specs.declared.moments.Moment.TheVariants.{Minute}
 use Rattle.model.specs.declared.slips.Use.{Use}
+use Rattle.bunker.specs.NextStretch.{NextStretch}
+use Rattle.bunker.specs.Records.{uses_of}
+use Rattle.bunker.specs.declared.bunkers.Bunker.{Bunker}
+use Rattle.bunker.specs.declared.stretches.Stretch.{Stretch}
+use Rattle.bunker.specs.declared.stretches.Stretches.{Stretches}
+use Rattle.std.specs.Iterator.{Yields}
+use Rattle.std.specs.List.{FoldsTo}
+use Rattle.tables.specs.Views.{table_view}
+use Rattle.tables.specs.declared.tables.Table.{Table}
+use denote.Param.Members.{Mut, Called}
 use Rattle.std.proofs.lemmas.Int.{ints}
-use Rattle.std.proofs.lemmas.Bool.{cases_lt}
+use Rattle.std.proofs.lemmas.Bool.{cases_lt, false≢true}
 
 -- ---- two moments that are alike
 
@@ -73,7 +83,7 @@ narrowed_low G H a b to low g = record {
 
 -- ---- a stretch: its first minute gives the least "by", its last the least "after"
 
-module _ (s : Settings) (us : List Use) (m : View) (first last : ℕ) (stretch : Stretch m us first last) where
+module _ (s : Settings) (us : List Use) (m : View) (first last : ℕ) (stretch : LongestFrom m us first last) where
   to_first : (k : ℕ) → first ≤ k → k ≤ last → Alike m us (Minute k) (Minute first)
   to_first k a b = alike_back m us (Minute first) (Minute k) (stretch.throughout k a b)
 
@@ -119,3 +129,36 @@ module _ (s : Settings) (us : List Use) (m : View) (first last : ℕ) (stretch :
   -- one stretch more
   pub narrowed_stretch : (a b c : View) → Narrowed (FollowsBefore s us m first) a b → Narrowed (FollowsEnds s us m first last) b c → Narrowed (FollowsBefore s us m (last + 1)) a c
   narrowed_stretch a b c before here = narrowed_low Ends (FollowsBefore s us m (last + 1)) a c from_ends to_ends (narrowed_then _ _ a b c before here)
+
+-- ---- the stretches of a day, one behind the other
+
+module _ (b : Bunker) (t : Table) where
+  longest : (s u : Stretches) (x : Stretch) → s.bunker.now ≡ b → s.table.now ≡ t → NextStretch s (Some x) u → LongestFrom (table_view t) (uses_of b) s.first x.last
+  longest s u x same_bunker same_table gave =
+      subst (λ c. LongestFrom (table_view t) (uses_of c) s.first x.last) same_bunker (subst (λ d. LongestFrom (table_view d) (uses_of s.bunker.now) s.first x.last) same_table gave.stretch.2)
+
+  pub narrowed_next : (s u : Stretches) (x : Stretch) → s.bunker.now ≡ b → s.table.now ≡ t → NextStretch s (Some x) u → (a c d : View) → Narrowed (FollowsBefore b.settings (uses_of b) (table_view t) s.first) a c → Narrowed (FollowsEnds b.settings (uses_of b) (table_view t) x.first x.last) c d → Narrowed (FollowsBefore b.settings (uses_of b) (table_view t) u.first) a d
+  narrowed_next s u x same_bunker same_table gave a c d before here =
+      subst (λ n. Narrowed (FollowsBefore b.settings (uses_of b) (table_view t) n) a d) (sym gave.stretch.1)
+      (narrowed_stretch b.settings (uses_of b) (table_view t) s.first x.last (longest s u x same_bunker same_table gave) a c d before (subst (λ n. Narrowed (FollowsEnds b.settings (uses_of b) (table_view t) n x.last) c d) gave.stretch.0 here))
+
+  abbrev Bare : ℕ → Type 0
+  Bare = NoRoomBefore b.settings (uses_of b) (table_view t)
+
+  abbrev BareAt : ℕ → Type 0
+  BareAt k = NoRoom b.settings (uses_of b) (table_view t) (Minute k)
+
+  -- what `any` answers where the bunker has room at each minute before those that are left
+  module _ {F : Type 0} (g : Mut F (Stretch × Unit {0}) Bool) (f : F)
+      (yes : (x : Stretch) (q : F) → Called g f (x, tt) true q → BareAt x.first)
+      (no : (x : Stretch) (q : F) → Called g f (x, tt) false q → (q ≡ f) × (BareAt x.first → ⊥)) where
+    pub decides_no_room : (r : Bool) (xs : List Stretch) (o : Option Stretch) (s u v : Stretches) (h j : F) → s.bunker.now ≡ b → s.table.now ≡ t → h ≡ f → (Bare s.first → ⊥) → Yields NextStretch s xs u → NextStretch u o v → FoldsTo (λ p x q. Called g p (x, tt) false q) h xs j → MatchOption o (r ≡ false) (λ x. (r ≡ true) × ((k : F) × Called g j (x, tt) true k)) → Decides r (Bare 10081)
+    decides_no_room r [] None s u v h j same_bunker same_table same before here gave ran end =
+        let e = ap (λ (a : Stretches). a.first) here in
+        (λ yes. absurd (false≢true (sym end ∙ yes)), λ w. absurd (before (w.0, omega (arith, gave.stretch.0, w.1), w.2)))
+    decides_no_room r [] (Some x) s u v h j same_bunker same_table same before here gave ran end =
+        (λ _. (x.first, omega (arith, x.ordered, x.in_day), yes x end.1.0 (subst (λ p. Called g p (x, tt) true end.1.0) (sym ran ∙ same) end.1.1)), λ _. end.0)
+    decides_no_room r (x ∷ xs) o s u v h j same_bunker same_table same before y gave ran end =
+        let room = no x ran.0 (subst (λ p. Called g p (x, tt) false ran.0) same ran.1) in
+        let behind = no_room_more b.settings (uses_of b) (table_view t) s.first x.last (longest s y.0 x same_bunker same_table y.1) before (subst (λ n. BareAt n → ⊥) y.1.stretch.0 room.1) in
+        decides_no_room r xs o y.0 u v ran.0 j (y.1.bunker ∙ same_bunker) (y.1.table ∙ same_table) room.0 (subst (λ n. Bare n → ⊥) (sym y.1.stretch.1) behind) y.2 gave ran.2 end

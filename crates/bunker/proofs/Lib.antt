@@ -1,9 +1,9 @@
 mod AlikeMinutes
 mod Kept
-mod Levels
 mod Rooms
 mod Runs
 mod Searches
 mod Steps
 mod Told
 mod Turns
+mod Worths

@@ -1,10 +1,11 @@
 -- What the tests on levels decide.
-use Rattle.std.proofs.Common.{◌≡◌, Bool, true, ◌&&◌, ◌⊎◌, List, ℤ, ◌+ℤ◌, ◌-ℤ◌, ◌≤ℤ◌, ◌<ℤ◌, Decides, ◌∙◌, ap₂, arith}
+use Rattle.std.proofs.Common.{◌≡◌, Bool, true, ◌⊎◌, List, ℤ, ◌+ℤ◌, ◌-ℤ◌, ◌≤ℤ◌, ◌<ℤ◌, Decides, ◌∙◌, ap₂, arith}
 use lib.Signed.{le_z, lt_z}
-use Rattle.bunker.specs.Choices.{high_of, low_of, missed, within, ruled_out}
+use Rattle.bunker.proofs.Worths.{leaves_high, leaves_low}
+use Rattle.bunker.specs.Choices.{high_of, low_of, Leaves}
 use Rattle.bunker.specs.declared.options.Options.{Options}
-use Rattle.bunker.specs.Rooms.{NoRoom, Room}
-use Rattle.bunker_laws.specs.Bunkers.{worth, can_be_active, can_be_idle, high, low, highest, lowest, RuledOut}
+use Rattle.bunker.specs.Rooms.{missed, within, AreLevels, NoRoom, Room}
+use Rattle.bunker_laws.specs.Bunkers.{worth, can_be_active, can_be_idle, highest, lowest, RuledOut}
 use Rattle.bunker_laws.specs.declared.settings.Settings.{Settings}
 use Rattle.model.specs.Plans.{View}
 use Rattle.model.specs.declared.moments.Moment.{Moment}
@@ -28,24 +29,20 @@ within_decides : (s : Settings) (h l : ℤ) → Decides (within s h l) ((s.floor
 within_decides s h l = Decides-and (le_z s.floor l) (le_z h s.roof) (decides_le s.floor l) (decides_le h s.roof)
 
 -- the levels at a moment
-module _ (s : Settings) (us : List Use) (m : View) (x : Moment) (r : Bool) (h l : ℤ) (hh : h ≡ highest s us m x) (hl : l ≡ lowest s us m x) where
+module _ (s : Settings) (us : List Use) (m : View) (x : Moment) (r : Bool) (h l : ℤ) (told : AreLevels s us m x h l) where
   pub no_room_told : r ≡ missed s h l → Decides r (NoRoom s us m x)
-  no_room_told e = Decides-at r _ (e ∙ ap₂ (missed s) hh hl) (missed_decides s (highest s us m x) (lowest s us m x))
+  no_room_told e = Decides-at r _ (e ∙ ap₂ (missed s) told.highest told.lowest) (missed_decides s (highest s us m x) (lowest s us m x))
 
   pub room_told : r ≡ within s h l → Decides r (Room s us m x)
-  room_told e = Decides-at r _ (e ∙ ap₂ (within s) hh hl) (within_decides s (highest s us m x) (lowest s us m x))
+  room_told e = Decides-at r _ (e ∙ ap₂ (within s) told.highest told.lowest) (within_decides s (highest s us m x) (lowest s us m x))
 
--- the options and the levels at a moment
-module _ (s : Settings) (us : List Use) (m : View) (x : Moment) (u : Use) (o : Options) (h l : ℤ)
-    (hw : o.worth ≡ worth u) (ha : o.active ≡ can_be_active m x u) (hi : o.idle ≡ can_be_idle m x u)
-    (hh : h ≡ highest s us m x) (hl : l ≡ lowest s us m x) where
-  pub ruled_out_holds : (r : Bool) (v w : ℤ) → v ≡ w → r ≡ ruled_out s o h l v → Decides r (RuledOut s us m x u w)
-  ruled_out_holds r v w same-worth e =
-      let up : ((h -ℤ high_of o) +ℤ v) ≡ ((highest s us m x -ℤ high m x u) +ℤ w) = cc in
-      let down : ((l -ℤ low_of o) +ℤ v) ≡ ((lowest s us m x -ℤ low m x u) +ℤ w) = cc in
-      let same : r ≡ ((can_be_active m x u && can_be_idle m x u) && missed s ((highest s us m x -ℤ high m x u) +ℤ w) ((lowest s us m x -ℤ low m x u) +ℤ w)) =
-      e ∙ ap₂ ◌&&◌ (ap₂ ◌&&◌ ha hi) (ap₂ (missed s) up down) in
+-- an option of a use that has both, where these are the levels at the moment
+module _ (s : Settings) (us : List Use) (m : View) (x : Moment) (u : Use) (high low : ℤ) (told : AreLevels s us m x high low) (o : Options) (left : Leaves o (can_be_active m x u) (can_be_idle m x u) (worth u)) (a : can_be_active m x u ≡ true) (i : can_be_idle m x u ≡ true) where
+  pub ruled_out_told : (r : Bool) (v k : ℤ) → v ≡ k → r ≡ missed s ((high -ℤ high_of o) +ℤ v) ((low -ℤ low_of o) +ℤ v) → Decides r (RuledOut s us m x u k)
+  ruled_out_told r v k same e =
+      let up = ap₂ ◌+ℤ◌ (ap₂ ◌-ℤ◌ told.highest (leaves_high o _ _ _ left)) same in
+      let down = ap₂ ◌+ℤ◌ (ap₂ ◌-ℤ◌ told.lowest (leaves_low o _ _ _ left)) same in
       Decides-like r
-      (λ p. record { active_open = p.0.0; idle_open = p.0.1; no_room = p.1 })
-      (λ q. ((q.active_open, q.idle_open), q.no_room))
-      (Decides-at r _ same (Decides-and _ _ (Decides-and _ _ (decides_true (can_be_active m x u)) (decides_true (can_be_idle m x u))) (missed_decides s _ _)))
+      (λ n. record { active_open = a; idle_open = i; no_room = n })
+      (λ q. q.no_room)
+      (Decides-at r _ (e ∙ ap₂ (missed s) up down) (missed_decides s _ _))

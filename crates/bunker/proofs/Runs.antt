@@ -2,7 +2,7 @@
 use Rattle.std.proofs.Common.{◌≡◌, ℕ, ◌+◌, Bool, true, false, not, List, take, ℤ, pos, neg_ℤ, sym, refl, ap, ◌∙◌, subst, inl, inr, ⊎_elim, arith}
 use lib.Signed.{le_z, lt_z}
 use Rattle.bunker.proofs.Turns.{Turn, in_still, in_now, each_more}
-use Rattle.bunker.specs.Stretches.{RunEnds, SameAt, SameFor, Alike, Stretch}
+use Rattle.bunker.specs.Stretches.{RunEnds, SameAt, SameFor, Alike, LongestFrom}
 use Rattle.model.specs.Plans.{View}
 use Rattle.model.specs.declared.moments.Moment.TheVariants.{Minute}
 use Rattle.model.specs.declared.slips.Use.{Use}
@@ -44,15 +44,15 @@ from_after z k l e = not_same _ _ (sym (turned z k) ∙ e ∙ turned z l)
     not_same false true e = absurd (false≢true (sym e))
 
 -- the two changes at a point
-pub run_point : (m : View) (p first last mid end : ℕ) (a b : ℤ) → RunEnds (λ k. le_z a (pos first) ≡ le_z a (pos k)) first last mid → RunEnds (λ k. le_z b (pos first) ≡ le_z b (pos k)) first mid end → a ≡ m.at 0 p → b ≡ neg_ℤ (m.at p 0) → RunEnds (λ k. SameAt m p (Minute first) (Minute k)) first last end
-run_point m p first last mid end a b by after by-is after_is =
+pub run_point : (m : View) (p first last next mid end : ℕ) (a b : ℤ) → RunEnds (λ k. le_z a (pos first) ≡ le_z a (pos k)) first last mid → next ≡ first → RunEnds (λ k. le_z b (pos next) ≡ le_z b (pos k)) next mid end → a ≡ m.at 0 p → b ≡ neg_ℤ (m.at p 0) → RunEnds (λ k. SameAt m p (Minute first) (Minute k)) first last end
+run_point m p first last next mid end a b by same after by-is after_is =
     run_like _ (λ k. SameAt m p (Minute first) (Minute k)) first last end
     (λ k w. (subst (λ z. le_z z (pos first) ≡ le_z z (pos k)) by-is w.0, to_after (m.at p 0) first k (subst (λ z. le_z z (pos first) ≡ le_z z (pos k)) after_is w.1)))
     (λ k w. (subst (λ z. le_z z (pos first) ≡ le_z z (pos k)) (sym by-is) w.0, subst (λ z. le_z z (pos first) ≡ le_z z (pos k)) (sym after_is) (from_after (m.at p 0) first k w.1)))
-    (run_then (λ k. le_z a (pos first) ≡ le_z a (pos k)) (λ k. le_z b (pos first) ≡ le_z b (pos k)) first last mid end by after)
+    (run_then (λ k. le_z a (pos first) ≡ le_z a (pos k)) (λ k. le_z b (pos first) ≡ le_z b (pos k)) first last mid end by (subst (λ n. RunEnds (λ k. le_z b (pos n) ≡ le_z b (pos k)) n mid end) same after))
 
 -- one use more
-pub run_use : (m : View) (us : List Use) (i : ℕ) (u : Use) (first mid end : ℕ) → Turn us i u → Stretch m (take i us) first mid → RunEnds (λ k. SameFor m u (Minute first) (Minute k)) first mid end → Stretch m (take (i + 1) us) first end
+pub run_use : (m : View) (us : List Use) (i : ℕ) (u : Use) (first mid end : ℕ) → Turn us i u → LongestFrom m (take i us) first mid → RunEnds (λ k. SameFor m u (Minute first) (Minute k)) first mid end → LongestFrom m (take (i + 1) us) first end
 run_use m us i u first mid end t before here =
     run_like _ (λ k. Alike m (take (i + 1) us) (Minute first) (Minute k)) first 10080 end
     (λ k w. each_more us i u t (λ v. SameFor m v (Minute first) (Minute k)) w.0 w.1)

@@ -1,6 +1,13 @@
 -- Loops that look for a use, and what their answers decide.
-use Rattle.std.proofs.Common.{◌≡◌, ℕ, ◌+◌, Bool, true, false, ◌⊎◌, List, take, Decides, sym, refl, subst, inl, inr, ⊎_elim, arith}
-use Rattle.bunker.proofs.Turns.{Turn, in_next}
+use Rattle.std.proofs.Common.{◌≡◌, ℕ, suc, ◌<◌, Bool, true, false, ◌⊎◌, List, [], ◌∷◌, map, length, get_or, Decides, MatchBool, sym, refl, subst, inl, inr, ⊎_elim, arith}
+use Rattle.std.specs.List.{HoldsAt, AllWithin}
+use Rattle.bunker.proofs.Turns.{blank}
+use Rattle.bunker.specs.Records.{uses_of}
+use Rattle.bunker.specs.declared.bunkers.Bunker.{Bunker}
+use Rattle.model.proofs.Members.{in_at}
+use Rattle.register.specs.Lookups.{what_of}
+use Rattle.register.specs.Standing.{items_of}
+use Rattle.register.specs.declared.records.Numbered.{Numbered}
 use Rattle.bunker.specs.Rooms.{NoRoom, NoRoomBefore, NoRoomPoints, SomeReversed, Room, RoomPoints, AllOrdered}
 use Rattle.bunker_laws.specs.Bunkers.{Looked, Refuses, Vouches}
 use Rattle.bunker_laws.specs.declared.settings.Settings.{Settings}
@@ -12,16 +19,30 @@ use Rattle.model.specs.declared.slips.Use.{Use}
 use Rattle.std.proofs.lemmas.Bool.{false≢true}
 use Rattle.std.proofs.lemmas.Bool.Decides.{Decides-like}
 
--- an answer that is known
-pub decides_yes : {P : Type 0} → P → Decides true P
-decides_yes p = (λ e. p, λ q. refl)
+-- ---- a search through the records of a bunker, where r is the answer
 
-pub decides_no : {P : Type 0} → (P → ⊥) → Decides false P
-decides_no none = (λ e. absurd (false≢true e), λ p. absurd (none p))
+-- a use that stands is that of a record
+placed : (u : Use) (xs : List (Numbered Use)) → In u (map what_of xs) → (k : ℕ) × (k < length xs) × ((get_or xs k blank).what ≡ u)
+placed u [] h = absurd h
+placed u (x ∷ xs) (inl e) = (0, omega arith, e)
+placed u (x ∷ xs) (inr h) = let w = placed u xs h in (suc w.0, omega arith, w.2)
 
--- none before and not this one: none so far
-pub none_more : (P : Use → Type 0) (us : List Use) (i : ℕ) (u : Use) → Turn us i u → ((v : Use) × In v (take i us) × P v → ⊥) → (P u → ⊥) → (v : Use) × In v (take (i + 1) us) × P v → ⊥
-none_more P us i u t before here w = ⊎_elim (λ h. before (w.0, h, w.2)) (λ (e : u ≡ w.0). here (subst P (sym e) w.2)) (in_next us i u t w.0 w.1)
+module _ (P : Use → Type 0) (b : Bunker) (xs : List (Numbered Use)) (same : xs ≡ items_of b.uses) where
+  pub decides_any : (r : Bool) → MatchBool r ((k : ℕ) × (k < length xs) × HoldsAt (λ x. P x.what) xs k) (AllWithin (λ x. P x.what → ⊥) xs 0 (length xs)) → Decides r ((u : Use) × In u (uses_of b) × P u)
+  decides_any r h = subst (λ ys. Decides r ((u : Use) × In u (map what_of ys) × P u)) same (found r h)
+    where
+      found : (r : Bool) → MatchBool r ((k : ℕ) × (k < length xs) × HoldsAt (λ x. P x.what) xs k) (AllWithin (λ x. P x.what → ⊥) xs 0 (length xs)) → Decides r ((u : Use) × In u (map what_of xs) × P u)
+      found true h = (λ e. ((get_or xs h.0 blank).what, in_at what_of xs h.0 blank h.1, h.2 blank), λ w. refl)
+      found false h = (λ e. absurd (false≢true e), λ w. let p = placed w.0 xs w.1 in absurd (h p.0 blank (omega arith) p.1 (subst P (sym p.2) w.2)))
+
+  pub decides_all : (r : Bool) → MatchBool r (AllWithin (λ x. P x.what) xs 0 (length xs)) ((k : ℕ) × (k < length xs) × HoldsAt (λ x. P x.what → ⊥) xs k) → Decides r ((u : Use) → In u (uses_of b) → P u)
+  decides_all r h = subst (λ ys. Decides r ((u : Use) → In u (map what_of ys) → P u)) same (each r h)
+    where
+      each : (r : Bool) → MatchBool r (AllWithin (λ x. P x.what) xs 0 (length xs)) ((k : ℕ) × (k < length xs) × HoldsAt (λ x. P x.what → ⊥) xs k) → Decides r ((u : Use) → In u (map what_of xs) → P u)
+      each true h = (λ e u i. let p = placed u xs i in subst P p.2 (h p.0 blank (omega arith) p.1), λ w. refl)
+      each false h = (λ e. absurd (false≢true e), λ w. absurd (h.2 blank (w (get_or xs h.0 blank).what (in_at what_of xs h.0 blank h.1))))
+
+-- ---- what the answers of the parts decide
 
 module _ (s : Settings) (us : List Use) (m : View) where
   to_refuses : SomeReversed m us ⊎ (NoRoomPoints s us m us ⊎ NoRoomBefore s us m 10081) → Refuses s us m

@@ -1,8 +1,14 @@
 -- How the steps of a propagation join.
 use Rattle.std.proofs.Common.{◌≡◌, ℕ, ◌+◌, Bool, true, false, ◌⊎◌, List, take, ℤ, pos, negsuc, ◌≤ℤ◌, Decides, sym, refl, ap, ◌∙◌, subst, inl, inr, ⊎_elim, arith}
 use Rattle.bunker.proofs.Turns.{Turn, in_next, in_still, in_now}
-use Rattle.bunker.specs.Following.{ActiveBounds, IdleBounds, OrderBounds, FollowsBefore, FollowsPoints}
-use Rattle.bunker_laws.specs.Bunkers.{worth, Looked, RuledOut, Follows, Gives}
+use Rattle.bunker.specs.Choices.{Leaves}
+use Rattle.bunker.specs.Following.{ActiveBounds, IdleBounds, OrderBounds, FollowsFor, FollowsBefore, FollowsPoints}
+use Rattle.bunker.specs.Records.{uses_of, told}
+use Rattle.bunker.specs.declared.bunkers.Bunker.{Bunker}
+use Rattle.bunker.specs.declared.options.Options.{Options}
+use Rattle.bunker.specs.declared.options.Options.TheVariants.{Both, Active, Idle, Neither}
+use Rattle.bunker.specs.declared.options.Worth.{Worth}
+use Rattle.bunker_laws.specs.Bunkers.{worth, can_be_active, can_be_idle, Looked, RuledOut, Follows, Gives}
 use Rattle.bunker_laws.specs.declared.settings.Settings.{Settings}
 use Rattle.model.proofs.Narrowings.{narrowed_then, narrowed_like, narrowed_none}
 use Rattle.model.specs.Narrowings.{Narrowed}
@@ -12,10 +18,12 @@ use Rattle.model.specs.declared.moments.Moment.{Moment}
 use Rattle.model.specs.declared.moments.Moment.TheVariants.{Point, Minute}
 use Rattle.model.specs.declared.slips.Use.{Use}
 use Rattle.std.proofs.lemmas.Int.{ints}
+use Rattle.std.proofs.lemmas.Bool.{false≢true}
 use Rattle.std.proofs.lemmas.Bool.Decides.{not_from_Decides}
 use Rattle.std.specs.Int.{int_max}
 use Rattle.tables.proofs.Narrows.{One, narrowed_one}
 use Rattle.tables.specs.Views.{lowered}
+use Rattle.tables.specs.declared.tables.Table.{Table}
 
 -- an entry lowered to a bound that is not below -10,081
 pub lowered_to : (a b : View) (i j : ℕ) (v w : ℤ) → b ≡ lowered a i j (int_max v (negsuc 10080)) → v ≡ w → negsuc 10080 ≤ℤ w → Narrowed (One i j w) a b
@@ -54,6 +62,21 @@ module _ (s : Settings) (us : List Use) (m : View) (x : Moment) (u : Use) where
 
   pub follows_by : (a b c : View) → Narrowed (λ i j v. RuledOut s us m x u (pos 0) × ActiveBounds x u i j v) a b → Narrowed (λ i j v. RuledOut s us m x u (worth u) × IdleBounds m x u i j v) b c → Narrowed (Follows s us m x u) a c
   follows_by a b c first then = narrowed_like Steps (Follows s us m x u) a c to_follows from_follows (narrowed_then _ _ a b c first then)
+
+  -- nothing follows unless both options are open
+  pub none_follows : (o : Options) → Leaves o (can_be_active m x u) (can_be_idle m x u) (worth u) → ((w : Worth) → o ≡ Both w → ⊥) → (i j : ℕ) (v : ℤ) → Follows s us m x u i j v → ⊥
+  none_follows o l none i j v f = ⊎_elim (λ h. not_open o l none h.0) (λ h. not_open o l none h.0) (from_follows i j v f)
+    where
+      not_open : {k : ℤ} (o : Options) → Leaves o (can_be_active m x u) (can_be_idle m x u) (worth u) → ((w : Worth) → o ≡ Both w → ⊥) → RuledOut s us m x u k → ⊥
+      not_open (Both w) l none r = none w refl
+      not_open (Active w) l none r = false≢true (sym l.1 ∙ r.idle_open)
+      not_open Idle l none r = false≢true (sym l.0 ∙ r.active_open)
+      not_open Neither l none r = false≢true (sym l.0 ∙ r.active_open)
+
+-- what follows at a moment, over the same table and moment under other names
+pub follows_there : (b : Bunker) (t t' : Table) (x x' : Moment) (before after : View) → t' ≡ t → x' ≡ x → Narrowed (told FollowsFor b t' (uses_of b) x') before after → Narrowed (told FollowsFor b t (uses_of b) x) before after
+follows_there b t t' x x' before after same_table same_moment n =
+    subst (λ y. Narrowed (told FollowsFor b t (uses_of b) y) before after) same_moment (subst (λ s. Narrowed (told FollowsFor b s (uses_of b) x') before after) same_table n)
 
 -- all that a bunker gives: the order of the loans, what follows at the points of the uses, and what follows at the minutes
 module _ (s : Settings) (us : List Use) (m : View) where

@@ -63,7 +63,7 @@ module _ (b : Bunker) where
   pub light_use : (u : Use) → In u (uses_of b) → Light u
   light_use u h =
       let w = under_number u 1 9999 (stands b.uses) (subst (λ us. In u us) (sym (standing_items b.uses)) h) in
-      (b.low w.0 u w.1, b.high w.0 u w.1)
+      b.light w.0 u w.1
 
   pub light_front : (i : ℕ) (u : Use) → In u (take i (uses_of b)) → Light u
   light_front i u h = light_use u (in_taken u i (uses_of b) h)

@@ -1,5 +1,5 @@
 -- The bounds that the steps of a propagation give.
-use Rattle.std.specs.Prelude.{◌≡◌, ℕ, ◌<◌, ◌≤◌, true, false, ◌||◌, ◌⊎◌, List, ℤ, pos}
+use Rattle.std.specs.Prelude.{◌≡◌, ℕ, ◌<◌, true, false, ◌||◌, ◌⊎◌, List, ℤ, pos}
 use Rattle.bunker_laws.specs.Bunkers.{delivery, sure_by, sure_after, ByBound, AfterBound, Follows}
 use Rattle.bunker_laws.specs.declared.settings.Settings.{Settings}
 use Rattle.model.specs.Plans.{View}
@@ -8,10 +8,10 @@ use Rattle.model.specs.declared.moments.Moment.{Moment}
 use Rattle.model.specs.declared.moments.Moment.TheVariants.{Point, Minute}
 use Rattle.model.specs.declared.slips.Use.{Use}
 
--- a moment of the longest day
-abbrev pub InDay : Moment → Type 0
-InDay (Point q) = Unit {0}
-InDay (Minute k) = k ≤ 10080
+-- the minute that a moment names; a point names none, which counts as 0
+abbrev pub minute_named : Moment → ℕ
+minute_named (Point q) = 0
+minute_named (Minute k) = k
 
 -- the use is active at the moment
 abbrev pub ActiveBounds : Moment → Use → ℕ → ℕ → ℤ → Type 0

@@ -1,5 +1,5 @@
 -- Levels beside the floor and the roof, and loans in their order.
-use Rattle.std.specs.Prelude.{◌≡◌, ℕ, ◌<◌, false, ◌⊎◌, List, pos, ◌≤ℤ◌, ◌<ℤ◌}
+use Rattle.std.specs.Prelude.{◌≡◌, ℕ, ◌<◌, Bool, false, ◌&&◌, ◌||◌, ◌⊎◌, List, ℤ, pos, ◌≤ℤ◌, ◌<ℤ◌, int_le, int_lt}
 use Rattle.bunker_laws.specs.Bunkers.{delivery, highest, lowest}
 use Rattle.bunker_laws.specs.declared.settings.Settings.{Settings}
 use Rattle.model.specs.Plans.{View}
@@ -8,9 +8,24 @@ use Rattle.model.specs.declared.moments.Moment.{Moment}
 use Rattle.model.specs.declared.moments.Moment.TheVariants.{Point, Minute}
 use Rattle.model.specs.declared.slips.Use.{Use}
 
+-- ---- levels from the lowest to the highest
+
+-- none of them lies between floor and roof
+abbrev pub missed : Settings → (highest lowest : ℤ) → Bool
+missed s highest lowest = int_lt highest s.floor || int_lt s.roof lowest
+
+-- all of them do
+abbrev pub within : Settings → (highest lowest : ℤ) → Bool
+within s highest lowest = int_le s.floor lowest && int_le highest s.roof
+
 -- ---- levels at a moment
 
 module _ (s : Settings) (us : List Use) (m : View) where
+  -- these are the highest and the lowest
+  pub record AreLevels (x : Moment) (high low : ℤ) : Type 0 where
+    pub highest : high ≡ highest s us m x
+    pub lowest : low ≡ lowest s us m x
+
   -- none lies between floor and roof
   abbrev pub NoRoom : Moment → Type 0
   NoRoom x = (highest s us m x <ℤ s.floor) ⊎ (s.roof <ℤ lowest s us m x)

@@ -27,5 +27,5 @@ abbrev pub Alike : View → List Use → Moment → Moment → Type 0
 Alike m us x y = (u : Use) → In u us → SameFor m u x y
 
 -- the longest stretch of minutes of the day from `first` on that are alike
-abbrev pub Stretch : View → List Use → (first last : ℕ) → Type 0
-Stretch m us first last = RunEnds (λ k. Alike m us (Minute first) (Minute k)) first 10080 last
+abbrev pub LongestFrom : View → List Use → (first last : ℕ) → Type 0
+LongestFrom m us first last = RunEnds (λ k. Alike m us (Minute first) (Minute k)) first 10080 last

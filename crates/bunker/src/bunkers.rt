@@ -1,5 +1,6 @@
 // The bunker itself. What is done with it stands in the other modules.
-ghost use Rattle.std.specs.Prelude.{◌≡◌, ℕ, pos, negsuc, ◌≤ℤ◌, Some};
+ghost use Rattle.std.specs.Prelude.{◌≡◌, ℕ, Some};
+ghost use Rattle.bunker.specs.Ranges.{Light};
 ghost use Rattle.model.specs.declared.slips.Use.{Use};
 ghost use Rattle.register.specs.Standing.{stands};
 
@@ -17,6 +18,5 @@ pub const MOST_USES: usize = 32;
 pub struct Bunker {
     pub(crate) settings: Settings,
     pub(crate) uses: Register<Use, MOST_USES>,
-    ghost low: { (k : ℕ) (u : Use) → stands uses k ≡ Some u → negsuc 999999 ≤ℤ u.kilos },
-    ghost high: { (k : ℕ) (u : Use) → stands uses k ≡ Some u → u.kilos ≤ℤ pos 1000000 },
+    ghost light: { (k : ℕ) (u : Use) → stands uses k ≡ Some u → Light u },
 }

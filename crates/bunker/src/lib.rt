@@ -2,12 +2,14 @@
 #![tactic(auto)]
 
 pub mod bunkers;
+mod levels;
 pub mod limit;
 mod moments;
 mod options;
 mod profile;
 mod propagate;
 mod refusing;
+mod requiring;
 pub mod rule;
 mod stretches;
 mod vouching;

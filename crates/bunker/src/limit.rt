@@ -8,18 +8,20 @@ use crate::bunkers::{Bunker, MOST_USES};
 use model::refusals::Refusal;
 use model::slips::Use;
 use rules::limit::Limit;
-use rules::single::{give_up_one, take_one};
+use rules::single::{any_in_one, give_up_one, most_of_one, take_one};
 
 // The most kilos of a use, either way.
-const MOST_KILOS: i32 = 1_000_000;
+const MOST_KILOS: u32 = 1_000_000;
 
 // Whether the use moves some kilos, and not too many.
 fn moves_kilos(what: Use) -> bool
     ensures { result ≡ moves_kilos what }
 {
-    what.kilos != 0 && -MOST_KILOS <= what.kilos && what.kilos <= MOST_KILOS
+    what.kilos != 0 && what.kilos.unsigned_abs() <= MOST_KILOS
 }
 
+// Each body is one call of rules::single. One impl for all limits of one place is refused: the most uses, a parameter of the
+// register's type, would stand in neither its trait nor its type.
 impl Limit for Bunker {
     ghost most = { λ _ place. at_first 32 0 place };
 
@@ -32,11 +34,11 @@ impl Limit for Bunker {
     }
 
     fn most_uses(&self, place: usize) -> usize {
-        if place == 0 { MOST_USES } else { 0 }
+        most_of_one(MOST_USES, place)
     }
 
     fn any_use(&self) -> bool {
-        !self.uses.is_empty()
+        any_in_one(&self.uses)
     }
 
     fn take(&mut self, place: usize, number: u32, what: Use) -> Result<(), Refusal> {

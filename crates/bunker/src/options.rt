@@ -1,15 +1,12 @@
 // The options of a use at a moment.
-ghost use Rattle.std.specs.Prelude.{◌≡◌, ◌&&◌, pos, negsuc, ◌≤ℤ◌};
+ghost use Rattle.std.specs.Prelude.{◌≡◌};
 ghost use Rattle.bunker_laws.specs.Bunkers.{delivery, worth as worthOf, can_be_active, can_be_idle};
 ghost use Rattle.bunker.specs.Ranges.{Small, Light};
 ghost use Rattle.tables.specs.Views.{table_view};
 
-use crate::moments::{sure_after, sure_by};
-use model::moments::Moment;
+use crate::levels::Levels;
+use crate::moments::TableAt;
 use model::slips::Use;
-use tables::tables::Table;
-
-mod worths;
 
 // A use with one point is a delivery, any other a loan.
 pub(crate) fn is_delivery(what: Use) -> bool
@@ -18,52 +15,74 @@ pub(crate) fn is_delivery(what: Use) -> bool
     what.first == what.last
 }
 
-// What the use is worth while it is active.
-fn worth(what: Use) -> i32
-    requires { Light what }
-    ensures value { result ≡ worthOf what }
-    ensures small { Small result }
-{
-    if is_delivery(what) {
-        what.kilos
-    } else {
-        -what.kilos
+// What a use is worth.
+#[derive(Clone, Copy)]
+pub(crate) struct Worth {
+    pub(crate) kilos: i32,
+    ghost small: { Small kilos },
+}
+
+impl Worth {
+    // While it is idle.
+    pub(crate) const IDLE: Worth = Worth { kilos: 0 };
+
+    // While it is active.
+    fn active(what: Use) -> Worth
+        requires { Light what }
+        ensures { result.kilos ≡ worthOf what }
+    {
+        Worth {
+            kilos: if is_delivery(what) {
+                what.kilos
+            } else {
+                -what.kilos
+            },
+        }
     }
 }
 
-// Which options a use has left, active for its worth or idle for nothing.
+// Which options a use has left: active for its worth, or idle for nothing.
 #[derive(Clone, Copy)]
-pub(crate) struct Options {
-    pub(crate) worth: i32,
-    pub(crate) active: bool,
-    pub(crate) idle: bool,
-    ghost light: { negsuc 999999 ≤ℤ worth },
-    ghost heavy: { worth ≤ℤ pos 1000000 },
+pub(crate) enum Options {
+    Both(Worth),
+    Active(Worth),
+    Idle,
+    Neither,
 }
 
 impl Options {
-    // What the table leaves open to the use at a moment.
-    pub(crate) fn new(table: &Table, at: Moment, what: Use) -> Options
+    ghost use Rattle.bunker.specs.Choices.{high_of, low_of};
+
+    // The largest and the smallest worth among the options, or 0.
+    pub(crate) fn levels(self) -> Levels
+        ensures highest { result.highest ≡ high_of self }
+        ensures lowest { result.lowest ≡ low_of self }
+    {
+        let (highest, lowest) = match self {
+            Options::Both(worth) => (worth.kilos.max(0), worth.kilos.min(0)),
+            Options::Active(worth) => (worth.kilos, worth.kilos),
+            Options::Idle | Options::Neither => (0, 0),
+        };
+        Levels { highest, lowest }
+    }
+}
+
+impl TableAt<'_> {
+    ghost use Rattle.bunker.specs.Choices.{Leaves};
+
+    // What the table leaves open to the use at the moment.
+    pub(crate) fn options(self, what: Use) -> Options
         requires { Light what }
-        ensures worth { result.worth ≡ worthOf what }
-        ensures active { result.active ≡ can_be_active (table_view table.now) at what }
-        ensures idle { result.idle ≡ can_be_idle (table_view table.now) at what }
+        ensures { Leaves result (can_be_active (table_view self.entry.table.now) self.entry.at what) (can_be_idle (table_view self.entry.table.now) self.entry.at what) (worthOf what) }
     {
         let delivery = is_delivery(what);
-        let sure_active = sure_by(table, what.first, at)
-            && (delivery || sure_after(table, what.last, at));
-        Options {
-            worth: worth(what),
-            active: !sure_after(table, what.first, at)
-                && (delivery || !sure_by(table, what.last, at)),
-            idle: !sure_active,
+        let active = !self.sure_after(what.first) && (delivery || !self.sure_by(what.last));
+        let idle = !(self.sure_by(what.first) && (delivery || self.sure_after(what.last)));
+        match (active, idle) {
+            (true, true) => Options::Both(Worth::active(what)),
+            (true, false) => Options::Active(Worth::active(what)),
+            (false, true) => Options::Idle,
+            (false, false) => Options::Neither,
         }
-    }
-
-    // Whether both options are open.
-    pub(crate) fn undecided(self) -> bool
-        ensures { result ≡ (self.active && self.idle) }
-    {
-        self.active && self.idle
     }
 }

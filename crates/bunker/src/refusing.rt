@@ -1,11 +1,12 @@
 // Whether a bunker refuses a table.
 ghost use Rattle.std.specs.Prelude.{◌⊎◌, Decides};
 ghost use Rattle.bunker_laws.specs.Bunkers.{Refuses};
-ghost use Rattle.bunker.specs.Records.{uses_of};
+ghost use Rattle.bunker.specs.Records.{uses_of, told};
 ghost use Rattle.bunker.specs.Rooms.{NoRoom, NoRoomBefore, NoRoomAround, NoRoomPoints, Reversed, SomeReversed};
 ghost use Rattle.tables.specs.Views.{table_view};
 
 use crate::bunkers::Bunker;
+use crate::moments::TableAt;
 use crate::options::is_delivery;
 use model::moments::Moment;
 use model::slips::Use;
@@ -19,30 +20,26 @@ fn is_reversed(table: &Table, what: Use) -> bool
 }
 
 impl Bunker {
-    // Whether no level at the moment lies between floor and roof.
+    // Whether no level at the moment lies between floor and roof. The table and the moment come apart: each caller has the table, and
+    // makes the moment.
     fn lacks_room(&self, table: &Table, at: Moment) -> bool
-        ensures { Decides result (NoRoom self.now.settings (uses_of self.now) (table_view table.now) at) }
+        ensures { Decides result (told NoRoom self.now table.now at) }
     {
-        self.profile(table, at).miss(self.settings)
+        self.profile(TableAt { table, at })
+            .levels
+            .miss(self.settings)
     }
 
     // Whether that holds of some minute. In a stretch of minutes that are alike the first one tells it for all.
     fn lacks_room_at_minute(&self, table: &Table) -> bool
-        ensures { Decides result (NoRoomBefore self.now.settings (uses_of self.now) (table_view table.now) 10081) }
+        ensures { Decides result (told NoRoomBefore self.now table.now 10081) }
     {
-        let mut first = 0;
-        while let Some(last) = self.stretch_end(table, first) {
-            if self.lacks_room(table, Moment::Minute(first)) {
-                return true;
-            }
-            first = last + 1;
-        }
-        false
+        self.stretches(table).any(|stretch| self.lacks_room(table, Moment::Minute(stretch.first)))
     }
 
     // Whether it holds of a point of the use.
     fn lacks_room_around(&self, table: &Table, what: Use) -> bool
-        ensures { Decides result (NoRoomAround self.now.settings (uses_of self.now) (table_view table.now) what) }
+        ensures { Decides result (told NoRoomAround self.now table.now what) }
     {
         self.lacks_room(table, Moment::Point(what.first))
             || self.lacks_room(table, Moment::Point(what.last))
@@ -50,38 +47,30 @@ impl Bunker {
 
     // Whether it holds of a point of some use.
     fn lacks_room_at_point(&self, table: &Table) -> bool
-        ensures { Decides result (NoRoomPoints self.now.settings (uses_of self.now) (table_view table.now) (uses_of self.now)) }
+        ensures { Decides result (told NoRoomPoints self.now table.now (uses_of self.now)) }
     {
-        for x in self.uses.as_slice() {
-            if self.lacks_room_around(table, x.what) {
-                return true;
-            }
-        }
-        false
+        let uses = self.uses.as_slice();
+        uses.iter().any(|x| self.lacks_room_around(table, x.what))
     }
 
     // Whether some loan is reversed.
     fn has_reversed(&self, table: &Table) -> bool
         ensures { Decides result (SomeReversed (table_view table.now) (uses_of self.now)) }
     {
-        for x in self.uses.as_slice() {
-            if is_reversed(table, x.what) {
-                return true;
-            }
-        }
-        false
+        let uses = self.uses.as_slice();
+        uses.iter().any(|x| is_reversed(table, x.what))
     }
 
     // Whether it holds of some moment that a bunker looks at.
     fn lacks_room_somewhere(&self, table: &Table) -> bool
-        ensures { Decides result (NoRoomPoints self.now.settings (uses_of self.now) (table_view table.now) (uses_of self.now) ⊎ NoRoomBefore self.now.settings (uses_of self.now) (table_view table.now) 10081) }
+        ensures { Decides result (told NoRoomPoints self.now table.now (uses_of self.now) ⊎ told NoRoomBefore self.now table.now 10081) }
     {
         self.lacks_room_at_point(table) || self.lacks_room_at_minute(table)
     }
 
     // Whether the table is refused.
     pub(crate) fn rejects(&self, table: &Table) -> bool
-        ensures { Decides result (Refuses self.now.settings (uses_of self.now) (table_view table.now)) }
+        ensures { Decides result (told Refuses self.now table.now) }
     {
         self.has_reversed(table) || self.lacks_room_somewhere(table)
     }

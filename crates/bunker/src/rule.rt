@@ -5,6 +5,7 @@ ghost use Rattle.bunker_laws.proofs.Lawful.{bunker_lawful};
 ghost use Rattle.std.proofs.Common.{rules};
 
 use crate::bunkers::Bunker;
+use crate::moments::TableAt;
 use bunker_laws::settings::Settings;
 use model::moments::Moment;
 use rules::rule::Rule;
@@ -46,7 +47,7 @@ impl Rule for Bunker {
         if place > 0 {
             return None;
         }
-        let levels = self.profile(table, at);
+        let levels = self.profile(TableAt { table, at }).levels;
         Some((levels.highest, levels.lowest))
     }
 }

@@ -18,9 +18,14 @@ impl Bunker {
         ensures { MatchResult result (λ b. Proper floor roof start × (b.settings.floor ≡ floor) × (b.settings.roof ≡ roof) × (b.settings.start ≡ start) × (bunker_uses b ≡ none)) (λ e. ((e ≡ BadSettings) × (Proper floor roof start → ⊥)) ⊎ ((e ≡ OutOfMemory) × Proper floor roof start)) }
     {
         let settings = Settings::new(floor, roof, start)?;
-        match Register::new(heap) {
-            Ok(uses) => Ok(Bunker { settings, uses }),
-            Err(_) => Err(Refusal::OutOfMemory),
-        }
+        Bunker::with_settings(heap, settings)
+    }
+
+    // The same by settings that are made already.
+    pub fn with_settings(heap: Global, settings: Settings) -> Result<Bunker, Refusal>
+        ensures { MatchResult result (λ b. (b.settings ≡ settings) × (bunker_uses b ≡ none)) (λ e. e ≡ OutOfMemory) }
+    {
+        let uses = Register::new(heap)?;
+        Ok(Bunker { settings, uses })
     }
 }

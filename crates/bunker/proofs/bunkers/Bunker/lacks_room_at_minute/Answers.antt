@@ -1,15 +1,9 @@
-use Rattle.bunker.proofs.AlikeMinutes.{no_room_more}
+use Rattle.std.proofs.Common.{rules, tests, refl, arith}
+use Rattle.bunker.proofs.AlikeMinutes.{decides_no_room}
 use Rattle.bunker.proofs.bunkers.Bunker.lacks_room_at_minute.Goals as goal
-use Rattle.bunker.specs.Rooms.{NoRoom}
-use Rattle.bunker.specs.Records.{uses_of}
-use Rattle.model.specs.declared.moments.Moment.TheVariants.{Minute}
-use Rattle.std.proofs.lemmas.Bool.Decides.{not_from_Decides}
-use Rattle.tables.specs.Views.{table_view}
 
-pub loop-last-preserved : goal.loop-last-preserved
-loop-last-preserved c =
-    let b = c.args.self.now in
-    let m = table_view c.args.table.now in
-    let first = c.loop-last.first in
-    no_room_more b.settings (uses_of b) m first c.in-Some.last c.in-Some.ensures c.loop-last.invariant
-    (not_from_Decides {P = NoRoom b.settings (uses_of b) m (Minute first)} _ c.lacks_room.ensures c.if-lacks_room.false)
+pub returns : goal.returns
+returns c =
+    let e = c.stretches.ensures in
+    let ran = c.any.ensures.ran in
+    decides_no_room c.args.self.now c.args.table.now _ _ (λ x q k. search (rules, tests)) (λ x q k. search (rules, tests)) c.any.result ran.0 ran.1 _ ran.3.0 _ _ ran.2 e.bunker e.table refl (λ w. omega arith) ran.3.1 ran.3.2 ran.4 ran.5

@@ -1,15 +1,10 @@
-use Rattle.std.proofs.Common.{get_or, subst}
+use Rattle.std.proofs.Common.{get_or}
 use Rattle.bunker.proofs.Steps.{narrowed_more}
-use Rattle.bunker.proofs.Turns.{blank, turn, passed}
+use Rattle.bunker.proofs.Turns.{blank, turn}
 use Rattle.bunker.proofs.bunkers.Bunker.propagate_order.Goals as goal
-use Rattle.bunker.specs.Following.{OrderBound, OrderBounds}
+use Rattle.bunker.specs.Following.{OrderBound}
 use Rattle.bunker.specs.Records.{uses_of}
-use Rattle.model.proofs.Narrowings.{narrowed_none}
-use Rattle.model.specs.Narrowings.{Narrowed}
 use Rattle.tables.specs.Views.{bounds_view}
-
-pub loop-x-init : goal.loop-x-init
-loop-x-init c = narrowed_none _ (bounds_view c.args.bounds.now) (λ i j v w. w.1)
 
 pub loop-x-preserved : goal.loop-x-preserved
 loop-x-preserved c =
@@ -18,9 +13,3 @@ loop-x-preserved c =
     let i = c.loop-x.x-index in
     let t = turn b xs i c.as_slice-x-items.ensures.items c.loop-x-test.true in
     narrowed_more OrderBound (uses_of b) i (get_or xs i blank).what (bounds_view c.args.bounds.now) (bounds_view c.loop-x.bounds) (bounds_view c.require_order.new.bounds) t c.loop-x.invariant c.require_order.ensures
-
-pub returns : goal.returns
-returns c =
-    let b = c.args.self.now in
-    let all = passed b c.as_slice-x-items.result.now c.loop-x.x-index c.as_slice-x-items.ensures.items c.loop-x-test.false in
-    subst (λ us. Narrowed (OrderBounds us) (bounds_view c.args.bounds.now) (bounds_view c.loop-x.bounds)) all c.loop-x.invariant

@@ -7,5 +7,5 @@ use Rattle.std.proofs.Common.{is_ok, None}
 pub invariant_of-self : goal.invariant_of-self
 invariant_of-self c =
     let b = c.args.self.now in
-    let light = kept Light (stands b.uses) (stands c.give_up_one.new.uses) _ c.args.number None (λ k u h. (b.low k u h, b.high k u h)) (is_ok c.give_up_one.result) c.give_up_one.ensures.uses (λ _. tt) in
-    record { low = λ k u h. (light k u h).0; high = λ k u h. (light k u h).1 }
+    let light = kept Light (stands b.uses) (stands c.give_up_one.new.uses) _ c.args.number None b.light (is_ok c.give_up_one.result) c.give_up_one.ensures.uses (λ _. tt) in
+    record { light = light }

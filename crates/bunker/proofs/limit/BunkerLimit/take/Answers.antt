@@ -14,6 +14,6 @@ invariant_of-self c =
     let number = c.args.number in
     let what = c.args.what in
     let fits = c.moves_kilos.result in
-    let light = kept Light before (stands c.take_one.new.uses) place number (Some what) (λ k u h. (b.low k u h, b.high k u h)) (is_ok c.take_one.result) c.take_one.ensures.uses
+    let light = kept Light before (stands c.take_one.new.uses) place number (Some what) b.light (is_ok c.take_one.result) c.take_one.ensures.uses
     (λ h. formed_light what (sym c.moves_kilos.ensures ∙ taken_formed 1 (at_first 32 0) fits (single before) place number what c.take_one.result c.take_one.ensures.answer h)) in
-    record { low = λ k u h. (light k u h).0; high = λ k u h. (light k u h).1 }
+    record { light = light }

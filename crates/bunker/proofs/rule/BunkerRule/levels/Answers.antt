@@ -11,4 +11,4 @@ use Rattle.tables.specs.Views.{table_view}
 pub returns : goal.returns
 returns c =
     let b = c.args.self.now in
-    levels_told_holds b.settings (uses_of b) (standing (stands b.uses)) (table_view c.args.table.now) c.args.at c.args.place _ _ (omega arith) (sym (standing_items b.uses)) (omega (arith, ints, c.profile-levels.ensures.highest)) (omega (arith, ints, c.profile-levels.ensures.lowest))
+    levels_told_holds b.settings (uses_of b) (standing (stands b.uses)) (table_view c.args.table.now) c.args.at c.args.place _ _ (omega arith) (sym (standing_items b.uses)) (omega (arith, ints, c.profile.ensures.highest)) (omega (arith, ints, c.profile.ensures.lowest))

@@ -1,15 +1,15 @@
 -- The levels of a bunker, use by use.
-use Rattle.std.proofs.Common.{◌≡◌, ℕ, ◌+◌, Bool, true, cond, ◌&&◌, List, [], ◌∷◌, ◌++◌, take, ℤ, pos, negsuc, ◌+ℤ◌, ◌≤ℤ◌, sym, ap, ◌∙◌, subst, ap₂, arith}
-use Rattle.bunker.specs.Choices.{high_of, low_of, missed}
+use Rattle.std.proofs.Common.{◌≡◌, ℕ, ◌+◌, Bool, cond, List, [], ◌∷◌, ◌++◌, take, ℤ, pos, negsuc, ◌+ℤ◌, ◌≤ℤ◌, sym, ap, ◌∙◌, subst, arith}
+use Rattle.bunker.specs.Choices.{high_of, low_of, Leaves}
 use Rattle.bunker.specs.Ranges.{Small}
 use Rattle.bunker.specs.Records.{uses_of}
 use Rattle.bunker.specs.declared.bunkers.Bunker.{Bunker}
 use Rattle.bunker.specs.declared.options.Options.{Options}
+use Rattle.bunker.specs.declared.options.Options.TheVariants.{Both, Active, Idle, Neither}
 use Rattle.bunker.proofs.Turns.{Turn, few_uses, light_use, light_front}
 use Rattle.bunker_laws.proofs.Ranges.{Among, high_within, low_within, total_high_within, total_low_within}
 use Rattle.bunker_laws.proofs.Sums.{total_le}
 use Rattle.bunker_laws.specs.Bunkers.{total, worth, can_be_active, can_be_idle, high, low}
-use Rattle.bunker_laws.specs.declared.settings.Settings.{Settings}
 use Rattle.model.specs.Plans.{View}
 use Rattle.model.specs.declared.moments.Moment.{Moment}
 use Rattle.model.specs.declared.slips.Use.{Use}
@@ -20,15 +20,31 @@ total_push : (f : Use → ℤ) (us : List Use) (u : Use) → total f (us ++ u �
 total_push f [] u = omega (arith, ints)
 total_push f (v ∷ us) u = let e = total_push f us u in omega (arith, ints)
 
--- the options of a use are worth at most a million, either way
+-- at most a million, either way
 pub high_small : (o : Options) → Small (high_of o)
-high_small o = (grind (arith, ints), grind (arith, ints))
+high_small (Both w) = (grind (arith, ints, w.small.0), grind (arith, ints, w.small.1))
+high_small (Active w) = w.small
+high_small Idle = (omega (arith, ints), omega (arith, ints))
+high_small Neither = (omega (arith, ints), omega (arith, ints))
 
 pub low_small : (o : Options) → Small (low_of o)
-low_small o = (grind (arith, ints), grind (arith, ints))
+low_small (Both w) = (grind (arith, ints, w.small.0), grind (arith, ints, w.small.1))
+low_small (Active w) = w.small
+low_small Idle = (omega (arith, ints), omega (arith, ints))
+low_small Neither = (omega (arith, ints), omega (arith, ints))
 
-pub missed_if : (s : Settings) (b r : Bool) (h h' l l' : ℤ) → b ≡ true → r ≡ missed s h l → h ≡ h' → l ≡ l' → r ≡ (b && missed s h' l')
-missed_if s b r h h' l l' t e p q = rw t (e ∙ ap₂ (missed s) p q)
+-- the options that are left are worth what the moment leaves open
+pub leaves_high : (o : Options) (a i : Bool) (z : ℤ) → Leaves o a i z → high_of o ≡ cond a (cond i (int_max z (pos 0)) z) (pos 0)
+leaves_high (Both w) a i z h = cc
+leaves_high (Active w) a i z h = cc
+leaves_high Idle a i z h = cc
+leaves_high Neither a i z h = cc
+
+pub leaves_low : (o : Options) (a i : Bool) (z : ℤ) → Leaves o a i z → low_of o ≡ cond a (cond i (int_min z (pos 0)) z) (pos 0)
+leaves_low (Both w) a i z h = cc
+leaves_low (Active w) a i z h = cc
+leaves_low Idle a i z h = cc
+leaves_low Neither a i z h = cc
 
 low_high : (m : View) (x : Moment) (u : Use) → low m x u ≤ℤ high m x u
 low_high m x u = options (can_be_active m x u) (can_be_idle m x u) (worth u)
@@ -55,13 +71,13 @@ pub record Adds (f : Use → ℤ) (us : List Use) (i : ℕ) (z : ℤ) : Type 0 w
   pub here : Among 1000000 z
   pub after : total f (take (i + 1) us) ≡ (total f (take i us) +ℤ z)
 
-module _ (b : Bunker) (m : View) (x : Moment) (i : ℕ) (u : Use) (o : Options) (t : Turn (uses_of b) i u) (w : o.worth ≡ worth u) (a : o.active ≡ can_be_active m x u) (d : o.idle ≡ can_be_idle m x u) where
+module _ (b : Bunker) (m : View) (x : Moment) (i : ℕ) (u : Use) (o : Options) (t : Turn (uses_of b) i u) (l : Leaves o (can_be_active m x u) (can_be_idle m x u) (worth u)) where
   after : (f : Use → ℤ) → total f (take (i + 1) (uses_of b)) ≡ (total f (take i (uses_of b)) +ℤ f u)
   after f = ap (total f) t.more ∙ total_push f (take i (uses_of b)) u
 
   pub adds_high : (z : ℤ) → z ≡ high_of o → Adds (high m x) (uses_of b) i z
   adds_high z e =
-      let same : z ≡ high m x u = cc in
+      let same : z ≡ high m x u = e ∙ leaves_high o _ _ _ l in
       subst (λ y. Adds (high m x) (uses_of b) i y) (sym same) (record {
         before = total_high_within (take i (uses_of b)) m x 32 (few_uses b i) (light_front b i);
         here = high_within m x u 1000000 (light_use b u t.here);
@@ -70,7 +86,7 @@ module _ (b : Bunker) (m : View) (x : Moment) (i : ℕ) (u : Use) (o : Options) 
 
   pub adds_low : (z : ℤ) → z ≡ low_of o → Adds (low m x) (uses_of b) i z
   adds_low z e =
-      let same : z ≡ low m x u = cc in
+      let same : z ≡ low m x u = e ∙ leaves_low o _ _ _ l in
       subst (λ y. Adds (low m x) (uses_of b) i y) (sym same) (record {
         before = total_low_within (take i (uses_of b)) m x 32 (few_uses b i) (light_front b i);
         here = low_within m x u 1000000 (light_use b u t.here);

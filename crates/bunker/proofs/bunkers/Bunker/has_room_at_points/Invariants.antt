@@ -1,8 +1,0 @@
-use Rattle.std.proofs.Common.{take}
-use Rattle.bunker.proofs.bunkers.Bunker.has_room_at_points.Given as goal
-use Rattle.bunker.specs.Records.{uses_of}
-use Rattle.bunker.specs.Rooms.{RoomPoints}
-use Rattle.tables.specs.Views.{table_view}
-
-abbrev pub invariant-loop-x : goal.invariant-loop-x
-invariant-loop-x l = RoomPoints l.self.settings (uses_of l.self) (table_view l.table) (take l.x-index (uses_of l.self))

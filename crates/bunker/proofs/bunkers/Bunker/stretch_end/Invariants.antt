@@ -1,8 +1,0 @@
-use Rattle.std.proofs.Common.{take}
-use Rattle.bunker.proofs.bunkers.Bunker.stretch_end.Given as goal
-use Rattle.bunker.specs.Records.{uses_of}
-use Rattle.bunker.specs.Stretches.{Stretch}
-use Rattle.tables.specs.Views.{table_view}
-
-abbrev pub invariant-loop-x : goal.invariant-loop-x
-invariant-loop-x l = Stretch (table_view l.table) (take l.x-index (uses_of l.self)) l.first l.last
