@@ -1,3 +1,3 @@
 mod Lists
-mod Prefixes
 mod Pushes
+mod Searches

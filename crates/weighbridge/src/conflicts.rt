@@ -1,4 +1,4 @@
-// Crossings that leave a table no plan.
+// Crossings that leave a table no plan. The table, the others and b come one by one, as in the definitions of the clauses.
 ghost use Rattle.std.specs.Prelude.{Decides};
 ghost use Rattle.tables.specs.Views.{table_view};
 ghost use Rattle.weighbridge.specs.Crossings.{uses_of, Overlap, OverlapsOne, Conflicts};
@@ -19,12 +19,7 @@ fn overlap(table: &Table, a: Use, b: Use) -> bool
 fn overlaps_one(table: &Table, others: &[Numbered<Use>], b: Use) -> bool
     ensures { Decides result (OverlapsOne (table_view table.now) (uses_of others.now) b) }
 {
-    for a in others {
-        if overlap(table, a.what, b) {
-            return true;
-        }
-    }
-    false
+    others.iter().any(|a| overlap(table, a.what, b))
 }
 
 // Whether b ends before it begins, or overlaps one of the others.
@@ -34,14 +29,13 @@ fn conflicts(table: &Table, others: &[Numbered<Use>], b: Use) -> bool
     table.get(b.first, b.last) < 0 || overlaps_one(table, others, b)
 }
 
-// Whether any of the uses conflicts with itself or with one before it.
+// Whether any of the uses conflicts with itself or with one before it. It calls itself: of an `any` over the places, each with the
+// uses before it, the proof that it decides Refuses did not close.
 pub(crate) fn any_conflict(table: &Table, uses: &[Numbered<Use>]) -> bool
     ensures { Decides result (Refuses (uses_of uses.now) (table_view table.now)) }
 {
-    for (i, b) in uses.iter().enumerate() {
-        if conflicts(table, &uses[0..i], b.what) {
-            return true;
-        }
-    }
-    false
+    let Some((b, others)) = uses.split_last() else {
+        return false;
+    };
+    conflicts(table, others, b.what) || any_conflict(table, others)
 }

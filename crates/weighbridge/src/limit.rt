@@ -8,7 +8,7 @@ use crate::weighbridges::{MOST_USES, Weighbridge};
 use model::refusals::Refusal;
 use model::slips::Use;
 use rules::limit::Limit;
-use rules::single::{give_up_one, take_one};
+use rules::single::{any_in_one, give_up_one, most_of_one, take_one};
 
 // Whether the use has no kilos and two different points.
 fn is_crossing(what: Use) -> bool
@@ -17,6 +17,8 @@ fn is_crossing(what: Use) -> bool
     what.kilos == 0 && what.first != what.last
 }
 
+// Each body is one call of rules::single. One impl for all limits of one place is refused: the most uses, a parameter of the
+// register's type, would stand in neither its trait nor its type.
 impl Limit for Weighbridge {
     ghost most = { λ _ place. at_first 16 0 place };
 
@@ -29,11 +31,11 @@ impl Limit for Weighbridge {
     }
 
     fn most_uses(&self, place: usize) -> usize {
-        if place == 0 { MOST_USES } else { 0 }
+        most_of_one(MOST_USES, place)
     }
 
     fn any_use(&self) -> bool {
-        !self.uses.is_empty()
+        any_in_one(&self.uses)
     }
 
     fn take(&mut self, place: usize, number: u32, what: Use) -> Result<(), Refusal> {

@@ -19,12 +19,7 @@ fn apart(table: &Table, a: Use, b: Use) -> bool
 fn apart_from_all(table: &Table, others: &[Numbered<Use>], b: Use) -> bool
     ensures { Decides result (ApartFromAll (table_view table.now) (uses_of others.now) b) }
 {
-    for a in others {
-        if !apart(table, a.what, b) {
-            return false;
-        }
-    }
-    true
+    others.iter().all(|a| apart(table, a.what, b))
 }
 
 // Whether b ends no earlier than it begins, and is apart from all the others.
@@ -34,14 +29,12 @@ fn clear(table: &Table, others: &[Numbered<Use>], b: Use) -> bool
     table.get(b.last, b.first) <= 0 && apart_from_all(table, others, b)
 }
 
-// Whether each of the uses is clear of those before it.
+// Whether each of the uses is clear of those before it. It calls itself, as any_conflict does.
 pub(crate) fn all_clear(table: &Table, uses: &[Numbered<Use>]) -> bool
     ensures { Decides result (Vouches (uses_of uses.now) (table_view table.now)) }
 {
-    for (i, b) in uses.iter().enumerate() {
-        if !clear(table, &uses[0..i], b.what) {
-            return false;
-        }
-    }
-    true
+    let Some((b, others)) = uses.split_last() else {
+        return true;
+    };
+    clear(table, others, b.what) && all_clear(table, others)
 }

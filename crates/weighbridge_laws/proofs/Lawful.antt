@@ -10,20 +10,15 @@ use Rattle.model.specs.Uses.{Uses, In, standing}
 use Rattle.model.specs.declared.slips.Use.{Use}
 use Rattle.weighbridge_laws.specs.Weighbridges.{Before, Two, Allows, Gives, Refuses, Vouches, meaning}
 
-earlier_in : (a b : Use) (us : List Use) → Before a b us → In a us
-earlier_in a b [] h = absurd h
-earlier_in a b (u ∷ us) (inl h) = inl h.0
-earlier_in a b (u ∷ us) (inr h) = inr (earlier_in a b us h)
-
-later_in : (a b : Use) (us : List Use) → Before a b us → In b us
-later_in a b [] h = absurd h
-later_in a b (u ∷ us) (inl h) = inr h.1
-later_in a b (u ∷ us) (inr h) = inr (later_in a b us h)
+before_in : (a b : Use) (us : List Use) → Before a b us → In a us × In b us
+before_in a b [] h = absurd h
+before_in a b (u ∷ us) (inl h) = (inl h.0, inr h.1)
+before_in a b (u ∷ us) (inr h) = let w = before_in a b us h in (inr w.0, inr w.1)
 
 -- each of two uses is one of the list
-pub two_in : (a b : Use) (us : List Use) → Two a b us → In a us × In b us
-two_in a b us (inl h) = (earlier_in a b us h, later_in a b us h)
-two_in a b us (inr h) = (later_in b a us h, earlier_in b a us h)
+two_in : (a b : Use) (us : List Use) → Two a b us → In a us × In b us
+two_in a b us (inl h) = before_in a b us h
+two_in a b us (inr h) = let w = before_in b a us h in (w.1, w.0)
 
 -- the table holds the points of each use of the list
 abbrev Held : List Use → View → Type 0

@@ -14,9 +14,7 @@ impl Weighbridge {
     pub fn new(heap: Global) -> Result<Weighbridge, Refusal>
         ensures { MatchResult result (λ w. bridge_uses w ≡ none) (λ e. e ≡ OutOfMemory) }
     {
-        match Register::new(heap) {
-            Ok(uses) => Ok(Weighbridge { uses }),
-            Err(_) => Err(Refusal::OutOfMemory),
-        }
+        let uses = Register::new(heap)?;
+        Ok(Weighbridge { uses })
     }
 }

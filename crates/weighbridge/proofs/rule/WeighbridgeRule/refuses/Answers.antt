@@ -1,11 +1,4 @@
-use Rattle.std.proofs.Common.{Decides, sym, ap, ◌∙◌, subst}
-use Rattle.register.proofs.Gathered.{standing_items}
-use Rattle.tables.specs.Views.{table_view}
 use Rattle.weighbridge.proofs.rule.WeighbridgeRule.refuses.Goals as goal
-use Rattle.weighbridge.specs.Crossings.{uses_of}
-use Rattle.weighbridge_laws.specs.Weighbridges.{Refuses}
 
 pub returns : goal.returns
-returns c =
-    let all = ap uses_of c.as_slice.ensures.items ∙ sym (standing_items c.args.self.now.uses) in
-    subst (λ us. Decides c.any_conflict.result (Refuses us (table_view c.args.table.now))) all c.any_conflict.ensures
+returns c = rw c.as_slice.ensures.unnumbered at c.any_conflict.ensures
