@@ -1,6 +1,6 @@
 -- The day after a list of calls.
 use Rattle.std.proofs.Common.{◌≡◌, ℕ, ◌+◌, ◌<◌, cond, List, [], ◌∷◌, ◌++◌, length, get_or, take, is_some, Some, None, Option, refl, ap, ◌∙◌, arith}
-use Rattle.std.proofs.lemmas.List.{take_more, take_all, length_push}
+use Rattle.std.proofs.lemmas.List.{take_more, length_push}
 use Rattle.std.proofs.lemmas.Bool.Decides.{nat_tests}
 use Rattle.model.specs.Uses.{Uses}
 use Rattle.model.specs.declared.refusals.Refusal.{Refusal}
@@ -9,12 +9,9 @@ use Rattle.runs.specs.Days.{Day, Takes, ruled, refusal, changed, step, after}
 use Rattle.runs.specs.declared.calls.Call.{Call}
 use Rattle.runs.specs.declared.calls.Call.TheVariants.{Tighten}
 
-pub some_none : {X : Type 0} {x : X} {o : Option X} → o ≡ None → o ≡ Some x → ⊥
-some_none p q = let z : ◌≡◌ {A = ℕ} 0 1 = cc in omega arith
-
--- so on a newly ruled day on which no use stands
+-- on a newly ruled day on which no use stands
 pub held_ruled : {S : Type 0} (h : ℕ) (s : S) (us : Uses) → ((place k : ℕ) → us place k ≡ None) → Held (ruled h s us)
-held_ruled h s us none = record { slips = λ k x e. absurd (some_none refl e); uses = λ place k u e. absurd (some_none (none place k) e); some = omega arith }
+held_ruled h s us none = record { slips = λ k x e. cc; uses = λ place k u e. let n = none place k in cc; some = omega arith }
 
 module _ {S : Type 0} (takes : Takes S) where
   -- the day after a call is the day itself, where the call is refused, and the changed day, where it is accepted
@@ -23,7 +20,7 @@ module _ {S : Type 0} (takes : Takes S) where
     where
       by_refusal : (o : Option Refusal) → ((o ≡ None → ⊥) → P d) → (o ≡ None → P (changed takes d c)) → P (cond (is_some o) d (changed takes d c))
       by_refusal None refused accepted = accepted refl
-      by_refusal (Some why) refused accepted = refused (λ e. some_none e refl)
+      by_refusal (Some why) refused accepted = refused (λ e. cc)
 
   -- ---- one call more
 
@@ -33,9 +30,6 @@ module _ {S : Type 0} (takes : Takes S) where
 
   pub after_more : (d : Day S) (calls : List Call) (i : ℕ) → i < length calls → after takes d (take (i + 1) calls) ≡ step takes (after takes d (take i calls)) (get_or calls i Tighten)
   after_more d calls i lt = ap (after takes d) (take_more calls i Tighten lt) ∙ after_append d (take i calls) (get_or calls i Tighten ∷ [])
-
-  pub after_all : (d : Day S) (calls : List Call) → after takes d (take (length calls) calls) ≡ after takes d calls
-  after_all d calls = ap (after takes d) (take_all (length calls) calls (omega arith))
 
   -- ---- what no call changes
 
@@ -57,9 +51,6 @@ module _ {S : Type 0} (takes : Takes S) where
         some = let some = held.some in grind (arith, length_push);
       }
 
-  pub held_step : (d : Day S) (c : Call) → Held d → Held (step takes d c)
-  held_step d c held = by_step d c Held (λ _. held) (λ ok. held_changed d c ok held)
-
   pub held_after : (d : Day S) (calls : List Call) → Held d → Held (after takes d calls)
   held_after d [] held = held
-  held_after d (c ∷ cs) held = held_after (step takes d c) cs (held_step d c held)
+  held_after d (c ∷ cs) held = held_after (step takes d c) cs (by_step d c Held (λ _. held) (λ ok. held_changed d c ok held))

@@ -29,15 +29,11 @@ verdict_any_holds : (all : Bool) (v : Verdict) → v ≡ verdict_of all → (v �
 verdict_any_holds true v is = (λ _. refl, λ _. is)
 verdict_any_holds false v is = (λ e. cc, λ e. cc)
 
--- it is never "no plan"
-bounded_verdict : (all : Bool) → verdict_of all ≡ NoPlan → ⊥
-bounded_verdict true e = let z : ◌≡◌ {A = ℕ} 0 1 = cc in omega arith
-bounded_verdict false e = let z : ◌≡◌ {A = ℕ} 0 1 = cc in omega arith
-
 verdict_none_holds : (n : ℕ) (shown : Shown) (a : Answer) → Answers n shown a → (a.verdict ≡ NoPlan → shown ≡ Shown.no_plan) × (shown ≡ Shown.no_plan → a.verdict ≡ NoPlan)
 verdict_none_holds n Shown.nothing a answers = absurd answers
 verdict_none_holds n Shown.no_plan a answers = (λ _. refl, λ _. answers.0)
-verdict_none_holds n (Shown.bounds m all) a answers = (λ e. absurd (bounded_verdict all (sym answers.0 ∙ e)), λ e. cc)
+verdict_none_holds n (Shown.bounds m true) a answers = (λ e. cc, λ e. cc)
+verdict_none_holds n (Shown.bounds m false) a answers = (λ e. cc, λ e. cc)
 
 -- ---- a sheet that is tightened on the day d and shows this
 

@@ -4,7 +4,7 @@ use Rattle.std.proofs.lemmas.Bool.Decides.{nat_tests}
 use Rattle.model.specs.Uses.{Uses}
 use Rattle.model.specs.declared.slips.Distance.{Distance}
 use Rattle.model.specs.declared.slips.Use.{Use}
-use Rattle.runs.proofs.Afters.{some_none, by_step}
+use Rattle.runs.proofs.Afters.{by_step}
 use Rattle.runs.specs.Days.{Day, Takes, ruled, refusal, changed, step, after}
 use Rattle.runs.specs.Runs.{At, Accepted, SlipStands, UseStands}
 use Rattle.runs.specs.declared.calls.Call.{Call}
@@ -62,7 +62,7 @@ module _ {S X : Type 0} (takes : Takes S) (look : Day S → Option X) (posts : X
       accepted : KeptFrom d (c ∷ cs) 1 → refusal takes d c ≡ None → look (changed takes d c) ≡ Some x → Origin d (c ∷ cs) x
       accepted kept ok stands =
           ⊎_elim
-          (λ before. inr (before, kept_all d c cs (λ is _. some_none (ap (λ b. look (changed takes d b)) is ∙ keyed.withdrawn d) stands) kept))
+          (λ before. inr (before, kept_all d c cs (λ is _. (let gone = ap (λ b. look (changed takes d b)) is ∙ keyed.withdrawn d in cc)) kept))
           (λ posting. inl (0, ((omega arith, posting), ok, kept)))
           (keyed.comes d c x stands)
 
@@ -85,7 +85,7 @@ module _ {S X : Type 0} (takes : Takes S) (look : Day S → Option X) (posts : X
 
   -- where nothing stands before the first call, what stands is what was posted and not withdrawn
   told : (d : Day S) (calls : List Call) (x : X) → look d ≡ None → (look (after takes d calls) ≡ Some x → (i : ℕ) × PostedAt d calls x i) × ((i : ℕ) → PostedAt d calls x i → look (after takes d calls) ≡ Some x)
-  told d calls x none = (λ e. ⊎_elim (λ w. w) (λ w. absurd (some_none none w.0)) (origin d calls x e), posted_stands d calls x)
+  told d calls x none = (λ e. ⊎_elim (λ w. w) (λ w. cc) (origin d calls x e), posted_stands d calls x)
 
 -- ---- slips and uses
 

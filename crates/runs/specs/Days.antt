@@ -1,5 +1,6 @@
 -- What stands on a sheet, which calls are accepted, and what an accepted call changes.
-use Rattle.std.specs.Prelude.{ℕ, Bool, false, cond, not, ◌&&◌, ◌||◌, List, [], ◌∷◌, ◌++◌, length, pos, neg_ℤ, is_some, Some, None, codes, Option, ◌==◌, int_le, nat_le, nat_lt}
+use Rattle.std.specs.Prelude.{ℕ, Bool, cond, not, ◌&&◌, List, [], ◌∷◌, ◌++◌, length, pos, neg_ℤ, is_some, Some, None, codes, Option, ◌==◌, int_le, nat_le, nat_lt}
+use Rattle.std.specs.List.{list_any}
 use Rattle.std.specs.Str.{bytes_eq}
 use Rattle.model.specs.Closed.{Slips}
 use Rattle.model.specs.Labels.{is_label}
@@ -10,6 +11,7 @@ use Rattle.model.specs.declared.refusals.Refusal.TheVariants.{BadLabel, LabelTak
 use Rattle.model.specs.declared.slips.Distance.{Distance}
 use Rattle.model.specs.declared.slips.Use.{Use}
 use Rattle.register.specs.Lookups.{put_at}
+use Rattle.register.specs.Numbers.{is_number}
 use Rattle.runs.specs.declared.calls.Call.{Call}
 use Rattle.runs.specs.declared.calls.Call.TheVariants.{Name, PostDistance, PostUse, WithdrawDistance, WithdrawUse, Tighten, LookBound, LookLevels}
 
@@ -46,11 +48,7 @@ abbrev pub first : Bool → Refusal → Option Refusal → Option Refusal
 first applies why others = cond applies (Some why) others
 
 abbrev pub in_use : List ℕ → List (List ℕ) → Bool
-in_use text [] = false
-in_use text (l ∷ ls) = bytes_eq l text || in_use text ls
-
-abbrev pub is_number : ℕ → Bool
-is_number k = nat_le 1 k && nat_le k 9999
+in_use text labels = list_any (λ l. bytes_eq l text) labels
 
 module _ {S : Type 0} (takes : Takes S) (d : Day S) where
   -- ---- why a call is refused

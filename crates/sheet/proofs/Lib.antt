@@ -1,6 +1,5 @@
 mod CallEnds
 mod LabelLists
-mod Looks
 mod Plays
 mod Postings
 mod Tables

@@ -1,6 +1,7 @@
 -- One call more of a list that is played.
 use Rattle.std.proofs.Common.{◌≡◌, ℕ, ◌+◌, ◌<◌, true, cond, List, length, get_or, take, is_some, Some, None, Option, sym, refl, ap, ◌∙◌, subst, ⊎_elim, arith, below_more}
 use Rattle.std.proofs.lemmas.Bool.{cond-true}
+use Rattle.std.specs.Option.{option_map, option_or}
 use Rattle.model.specs.declared.refusals.Refusal.{Refusal}
 use Rattle.promise_laws.specs.Held.{UsesHeld}
 use Rattle.runs.proofs.Afters.{after_more, held_after}
@@ -12,7 +13,7 @@ use Rattle.runs.specs.Shown.{Shown, Means, Shows}
 use Rattle.runs.specs.declared.answers.Answer.{Answer}
 use Rattle.runs.specs.declared.calls.Call.{Call}
 use Rattle.runs.specs.declared.calls.Call.TheVariants.{Name, PostDistance, PostUse, WithdrawDistance, WithdrawUse, Tighten, LookBound, LookLevels}
-use Rattle.sheet.specs.Replies.{refusal_of, answer_of, Replies, ShowsThen, Applied, FirstBefore, AnsweredFor, earlier_of, later_of}
+use Rattle.sheet.specs.Replies.{refusal_of, answer_of, Replies, ShowsThen, Applied, FirstBefore, AnsweredFor}
 use Rattle.sheet.specs.Sheets.{answer_with}
 use Rattle.sheet.specs.declared.replies.Reply.{Reply}
 use Rattle.sheet.specs.declared.replies.Reply.TheVariants.{Named, Changed}
@@ -62,21 +63,21 @@ module _ {S : Type 0} (takes : Takes S) (means : Means S) where
 
   -- ---- what was answered
 
-  tightened_answered : (d : Day S) (shown then : Shown) (r : Reply) (before : Option Answer) → Replies takes means d shown then Tighten r → AnsweredFor (points d) then (later_of before (answer_of r))
-  tightened_answered d shown then r before (a, e, told) = subst (λ x. AnsweredFor (points d) then (later_of before (answer_of x))) (sym e) told
+  tightened_answered : (d : Day S) (shown then : Shown) (r : Reply) (before : Option Answer) → Replies takes means d shown then Tighten r → AnsweredFor (points d) then (option_or (answer_of r) before)
+  tightened_answered d shown then r before (a, e, told) = subst (λ x. AnsweredFor (points d) then (option_or (answer_of x) before)) (sym e) told
 
   -- a call that is no tightening tells no answer
-  refused_answer : (d : Day S) (shown then : Shown) (c : Call) (r : Reply) (before : Option Answer) → answer_of r ≡ None → then ≡ cond (is_some (refusal takes d c)) shown Shown.nothing → (refusal takes d c ≡ None → ⊥) → AnsweredFor (points d) shown before → AnsweredFor (points (step takes d c)) then (later_of before (answer_of r))
+  refused_answer : (d : Day S) (shown then : Shown) (c : Call) (r : Reply) (before : Option Answer) → answer_of r ≡ None → then ≡ cond (is_some (refusal takes d c)) shown Shown.nothing → (refusal takes d c ≡ None → ⊥) → AnsweredFor (points d) shown before → AnsweredFor (points (step takes d c)) then (option_or (answer_of r) before)
   refused_answer d shown then c r before none e no-accept told =
       let t = some_refusal (refusal takes d c) no-accept in
-      subst (λ o. AnsweredFor (points (step takes d c)) then (later_of before o)) (sym none)
+      subst (λ o. AnsweredFor (points (step takes d c)) then (option_or o before)) (sym none)
       (subst (λ x. AnsweredFor (points x) then before) (sym (cond-true (is_some (refusal takes d c)) d (changed takes d c) t))
       (subst (λ x. AnsweredFor (points d) x before) (sym (e ∙ cond-true (is_some (refusal takes d c)) shown Shown.nothing t)) told))
 
-  look_answer : (d : Day S) (shown then : Shown) (r : Reply) (before : Option Answer) → answer_of r ≡ None → then ≡ shown → AnsweredFor (points d) shown before → AnsweredFor (points d) then (later_of before (answer_of r))
-  look_answer d shown then r before none e told = subst (λ o. AnsweredFor (points d) then (later_of before o)) (sym none) (subst (λ x. AnsweredFor (points d) x before) (sym e) told)
+  look_answer : (d : Day S) (shown then : Shown) (r : Reply) (before : Option Answer) → answer_of r ≡ None → then ≡ shown → AnsweredFor (points d) shown before → AnsweredFor (points d) then (option_or (answer_of r) before)
+  look_answer d shown then r before none e told = subst (λ o. AnsweredFor (points d) then (option_or o before)) (sym none) (subst (λ x. AnsweredFor (points d) x before) (sym e) told)
 
-  still_answered : (d : Day S) (shown then : Shown) (c : Call) (r : Reply) (before : Option Answer) → Replies takes means d shown then c r → ShowsThen takes means d shown then c → (changes c ≡ true → refusal takes d c ≡ None → ⊥) → AnsweredFor (points d) shown before → AnsweredFor (points (step takes d c)) then (later_of before (answer_of r))
+  still_answered : (d : Day S) (shown then : Shown) (c : Call) (r : Reply) (before : Option Answer) → Replies takes means d shown then c r → ShowsThen takes means d shown then c → (changes c ≡ true → refusal takes d c ≡ None → ⊥) → AnsweredFor (points d) shown before → AnsweredFor (points (step takes d c)) then (option_or (answer_of r) before)
   still_answered d shown then (Name text) r before e s quiet told = refused_answer d shown then (Name text) r before (ap answer_of e) s (quiet refl) told
   still_answered d shown then (PostDistance k x) r before e s quiet told = refused_answer d shown then (PostDistance k x) r before (ap answer_of e) s (quiet refl) told
   still_answered d shown then (PostUse place k u) r before e s quiet told = refused_answer d shown then (PostUse place k u) r before (ap answer_of e) s (quiet refl) told
@@ -98,11 +99,11 @@ module _ {S : Type 0} (takes : Takes S) (means : Means S) where
     refused_here : refusal_of r ≡ refusal takes (after takes d (take i calls)) (get_or calls i Tighten)
     refused_here = told_refusal now-day shown then c r applied.reply ∙ (ap (λ x. refusal takes x c) reached ∙ ap (refusal takes (after takes d (take i calls))) is)
 
-    pub first_more : (first : Option (ℕ × Refusal)) → FirstBefore takes d calls i first → FirstBefore takes d calls (i + 1) (earlier_of first i (refusal_of r))
+    pub first_more : (first : Option (ℕ × Refusal)) → FirstBefore takes d calls i first → FirstBefore takes d calls (i + 1) (option_or first (option_map (λ why. (i, why)) (refusal_of r)))
     first_more (Some w) h = (omega arith, h.1, h.2)
     first_more None h = by (refusal_of r) refused_here
       where
-        by : (o : Option Refusal) → o ≡ refusal takes (after takes d (take i calls)) (get_or calls i Tighten) → FirstBefore takes d calls (i + 1) (earlier_of None i o)
+        by : (o : Option Refusal) → o ≡ refusal takes (after takes d (take i calls)) (get_or calls i Tighten) → FirstBefore takes d calls (i + 1) (option_or None (option_map (λ why. (i, why)) o))
         by None e = below_more _ _ h (sym e)
         by (Some why) e = (omega arith, sym e, h)
 
@@ -121,13 +122,13 @@ module _ {S : Type 0} (takes : Takes S) (means : Means S) where
         quiet h = subst (λ x. changes x ≡ true → refusal takes now-day x ≡ None → ⊥) (sym is) (subst (λ x. changes (get_or calls i Tighten) ≡ true → refusal takes x (get_or calls i Tighten) ≡ None → ⊥) (sym reached) h)
 
     -- the answer of the last tightening is that for what is shown
-    pub answer_more : (before : Option Answer) → (Settled takes d (take i calls) → AnsweredFor (points now-day) shown before) → Settled takes d (take (i + 1) calls) → AnsweredFor (points next) then (later_of before (answer_of r))
+    pub answer_more : (before : Option Answer) → (Settled takes d (take i calls) → AnsweredFor (points now-day) shown before) → Settled takes d (take (i + 1) calls) → AnsweredFor (points next) then (option_or (answer_of r) before)
     answer_more before told settled =
-        subst (λ x. AnsweredFor (points x) then (later_of before (answer_of r))) (sym applied.day)
+        subst (λ x. AnsweredFor (points x) then (option_or (answer_of r) before)) (sym applied.day)
         (⊎_elim (λ t. tightens (is ∙ t)) (λ w. still_answered now-day shown then c r before applied.reply applied.shows (quiet w.1) (told w.0)) (settled_more takes d calls i within settled))
       where
-        tightens : c ≡ Tighten → AnsweredFor (points (step takes now-day c)) then (later_of before (answer_of r))
-        tightens t = subst (λ x. Replies takes means now-day shown then x r → AnsweredFor (points (step takes now-day x)) then (later_of before (answer_of r))) (sym t) (λ e. tightened_answered now-day shown then r before e) applied.reply
+        tightens : c ≡ Tighten → AnsweredFor (points (step takes now-day c)) then (option_or (answer_of r) before)
+        tightens t = subst (λ x. Replies takes means now-day shown then x r → AnsweredFor (points (step takes now-day x)) then (option_or (answer_of r) before)) (sym t) (λ e. tightened_answered now-day shown then r before e) applied.reply
 
         quiet : (changes (get_or calls i Tighten) ≡ true → refusal takes (after takes d (take i calls)) (get_or calls i Tighten) ≡ None → ⊥) → changes c ≡ true → refusal takes now-day c ≡ None → ⊥
         quiet h = subst (λ x. changes x ≡ true → refusal takes now-day x ≡ None → ⊥) (sym is) (subst (λ x. changes (get_or calls i Tighten) ≡ true → refusal takes x (get_or calls i Tighten) ≡ None → ⊥) (sym reached) h)

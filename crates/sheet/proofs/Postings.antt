@@ -1,9 +1,11 @@
 -- Why a slip or a use is not posted, and what stands after.
-use Rattle.std.proofs.Common.{◌≡◌, ℕ, ◌<◌, ◌≤◌, Bool, true, false, not, ◌&&◌, eqb, ltb, leb, length, pos, neg_ℤ, is_some, Some, None, Option, sym, refl, ap, ◌∙◌, subst, ⊎_elim, arith}
+use Rattle.std.proofs.Common.{Ok, Err, ◌≡◌, ℕ, ◌<◌, Bool, true, false, not, ◌&&◌, eqb, ltb, leb, length, pos, neg_ℤ, is_some, Some, None, Option, sym, refl, ap, ◌∙◌, subst, ⊎_elim, arith}
 use lib.Signed.{le_z}
 use Rattle.std.proofs.lemmas.Bool.{cases_eq, lt-leb, le-leb}
 use Rattle.std.proofs.lemmas.Bool.Decides.{nat_tests}
-use Rattle.model.specs.Limits.{places_of, not_taken}
+use Rattle.std.proofs.lemmas.Option.{same_Some}
+use Rattle.model.specs.Closed.{Slips, SlipsHeld}
+use Rattle.model.specs.Limits.{places_of, not_taken, answer}
 use Rattle.model.specs.Uses.{standing}
 use Rattle.model.specs.declared.refusals.Refusal.{Refusal}
 use Rattle.model.specs.declared.refusals.Refusal.TheVariants.{NoPlace, BadSlipNumber, NoPoint, SamePoint, BadDistance, NumberStands, SlipsFull}
@@ -11,12 +13,16 @@ use Rattle.model.specs.declared.slips.Distance.{Distance}
 use Rattle.model.specs.declared.slips.Use.{Use}
 use Rattle.register.proofs.Gathered.{standing_length}
 use Rattle.register.specs.Lookups.{put_at}
+use Rattle.register.specs.Numbers.{is_number}
 use Rattle.register.specs.Standing.{stands, Accepts, Refuses}
 use Rattle.register.specs.declared.registers.NoInsert.{NoInsert}
 use Rattle.register.specs.declared.registers.NoInsert.TheVariants.{OutOfRange, Stands, Full}
 use Rattle.register.specs.declared.registers.Register.{Register}
-use Rattle.runs.specs.Days.{Day, Takes, first, is_number, points, not_posted, not_used}
-use Rattle.sheet.specs.Sheets.{or_else, bad_distance, bad_use, slip_refusal}
+use Rattle.runs.specs.Shown.{Shown}
+use Rattle.runs.specs.declared.calls.Call.TheVariants.{PostDistance}
+use Rattle.sheet.proofs.CallEnds.{refused, refused_as, accepted, passed, stopped}
+use Rattle.runs.specs.Days.{Day, Takes, first, points, not_posted, not_used}
+use Rattle.sheet.specs.Sheets.{Changed, or_else, bad_ends, bad_distance, slip_refusal}
 
 -- ---- the checks in two parts
 
@@ -56,10 +62,7 @@ module _ {S : Type 0} (takes : Takes S) (d : Day S) where
         rest ∙ rw (free, room)
 
     pub posted_refused : (why : NoInsert) → is_number k ≡ true → Refuses r k why → not_posted takes d k s ≡ Some (slip_refusal why)
-    posted_refused OutOfRange number out = absurd (out (in_range_holds number))
-      where
-        in_range_holds : is_number k ≡ true → (1 ≤ k) × (k ≤ 9999)
-        in_range_holds h = grind (arith, nat_tests)
+    posted_refused OutOfRange number out = absurd (out number)
     posted_refused Stands number w =
         let stood : is_some (d.slips k) ≡ true = ap is_some (ap (λ f. f k) same) ∙ w.1 in
         rest ∙ rw stood
@@ -73,39 +76,53 @@ module _ {S : Type 0} (takes : Takes S) (d : Day S) where
     abbrev rest_used : Option Refusal
     rest_used = not_taken (takes.width d.settings) (takes.most d.settings) (takes.form d.settings) d.uses place k u
 
-    used_parts : not_used takes d place k u ≡ or_else (bad_use (points d) k u) rest_used
+    used_parts : not_used takes d place k u ≡ or_else (bad_ends (points d) k u.first u.last) rest_used
     used_parts =
         let p = first (not (ltb u.first (points d) && ltb u.last (points d))) NoPoint in
         let b = first (not (is_number k)) BadSlipNumber in
         ap (λ t. first (not t) NoPlace (b (p rest_used))) reached
         ∙ (ap b (first_or _ NoPoint None rest_used) ∙ first_or _ BadSlipNumber (p None) rest_used)
 
-    pub not_used_holds : (why : Refusal) → bad_use (points d) k u ≡ Some why → not_used takes d place k u ≡ Some why
-    not_used_holds why e = used_parts ∙ ap (λ o. or_else o rest_used) e
-
-    pub used_by_limits : bad_use (points d) k u ≡ None → not_used takes d place k u ≡ rest_used
+    pub used_by_limits : bad_ends (points d) k u.first u.last ≡ None → not_used takes d place k u ≡ rest_used
     used_by_limits e = used_parts ∙ ap (λ o. or_else o rest_used) e
+
+-- a slip that passes the checks names points of the sheet, under a slip number
+pub proper_slip : (n h k : ℕ) (s : Distance) → bad_distance n h k s ≡ None → (is_number k ≡ true) × ((s.from < n) × (s.to < n))
+proper_slip n h k s e = (grind (arith, nat_tests), (grind (arith, nat_tests), grind (arith, nat_tests)))
+
+-- ---- how a posting of a slip ends, on a sheet of n points
+
+module _ {S : Type 0} (takes : Takes S) (d : Day S) (shown : Shown) (n k : ℕ) (s : Distance) (same : n ≡ points d) where
+  pub slip_stopped : (why : Refusal) → Err why ≡ answer (bad_distance n d.horizon k s) → Changed takes d shown (PostDistance k s) (tt {0}) (Err why) d shown
+  slip_stopped why e = refused takes d shown (PostDistance k s) _ why (not_posted_holds takes d k s why (subst (λ m. bad_distance m d.horizon k s ≡ Some why) same (stopped _ _ e)))
+
+  module _ (r x : Register Distance 256) (stood : d.slips ≡ stands r) (fine : Ok tt ≡ answer (bad_distance n d.horizon k s)) where
+    good : bad_distance (points d) d.horizon k s ≡ None
+    good = subst (λ m. bad_distance m d.horizon k s ≡ None) same (passed _ fine)
+
+    abbrev with_slips : Slips → Day S
+    with_slips slips = record { horizon = d.horizon; labels = d.labels; slips = slips; settings = d.settings; uses = d.uses }
+
+    pub slip_taken : Accepts r x k s → Changed takes d shown (PostDistance k s) (tt {0}) (Ok tt) (with_slips (stands x)) Shown.nothing
+    slip_taken a = accepted takes d shown (PostDistance k s) _ _ _ (posted_accepted takes d r stood k s good x a) (ap with_slips (a.after ∙ ap (λ f. put_at f k (Some s)) (sym stood))) refl
+
+    pub slip_left : (why : NoInsert) → Refuses r k why → x ≡ r → Changed takes d shown (PostDistance k s) (tt {0}) (Err (slip_refusal why)) (with_slips (stands x)) shown
+    slip_left why w left = refused_as takes d shown (PostDistance k s) _ _ _ _ (posted_refused takes d r stood k s good why (proper_slip _ _ k s good).0 w) refl (ap with_slips (ap (λ y. stands y) left ∙ sym stood))
 
 -- ---- what stands after
 
-pub put_each : (P : Distance → Type 0) (f g : ℕ → Option Distance) (n : ℕ) (o : Option Distance) → g ≡ put_at f n o → ((s : Distance) → o ≡ Some s → P s) → ((k : ℕ) (s : Distance) → f k ≡ Some s → P s) → (k : ℕ) (s : Distance) → g k ≡ Some s → P s
-put_each P f g n o e here there k s h = ⊎_elim
-    (λ (same : k ≡ n). here s (sym (at_same same) ∙ h))
-    (λ ne. there k s (sym (elsewhere ne) ∙ h))
-    (cases_eq k n)
+-- a slip that the checks let pass stands among slips that name points below n
+pub posted_held : (m n h k : ℕ) (s : Distance) (f g : Slips) → m ≡ n → Ok tt ≡ answer (bad_distance m h k s) → g ≡ put_at f k (Some s) → SlipsHeld n f → SlipsHeld n g
+posted_held m n h k s f g same fine after held j x e = ⊎_elim
+    (λ here. subst (λ y. (y.from < n) × (y.to < n)) (same_Some s x (sym (at_same here) ∙ e)) within)
+    (λ ne. held j x (sym (elsewhere ne) ∙ e))
+    (cases_eq j k)
   where
-    at_same : k ≡ n → g k ≡ o
-    at_same same = grind (arith, nat_tests)
+    within : (s.from < n) × (s.to < n)
+    within = subst (λ p. (s.from < p) × (s.to < p)) same (proper_slip m h k s (passed _ fine)).1
 
-    elsewhere : (k ≡ n → ⊥) → g k ≡ f k
+    at_same : j ≡ k → g j ≡ Some s
+    at_same here = grind (arith, nat_tests)
+
+    elsewhere : (j ≡ k → ⊥) → g j ≡ f j
     elsewhere ne = grind (arith, nat_tests)
-
-pub none_some : (s : Distance) → None ≡ Some s → ⊥
-none_some s e = let z : ◌≡◌ {A = ℕ} 0 1 = cc in omega arith
-
--- a slip that passes the checks names points of the sheet, under a slip number
-pub proper_slip : (n h k : ℕ) (s : Distance) → bad_distance n h k s ≡ None → (is_number k ≡ true) × (s.from < n) × (s.to < n)
-proper_slip n h k s e = (grind (arith, nat_tests), grind (arith, nat_tests), grind (arith, nat_tests))
-
-pub some_same : (P : Distance → Type 0) (a b : Distance) → Some a ≡ Some b → P a → P b
-some_same P a b e h = let same : a ≡ b = cc in subst P same h

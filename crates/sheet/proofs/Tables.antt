@@ -1,5 +1,5 @@
 -- The points of a table that a sheet shows.
-use Rattle.std.proofs.Common.{◌≡◌, ℕ, Bool, sym, subst, arith}
+use Rattle.std.proofs.Common.{◌≡◌, ℕ, Bool, sym, subst}
 use Rattle.runs.specs.Shown.{Answers}
 use Rattle.runs.specs.declared.answers.Answer.{Answer}
 use Rattle.sheet.specs.Sheets.{seen}
@@ -10,7 +10,7 @@ use Rattle.tables.specs.declared.tables.Table.{Table}
 
 -- where nothing is shown, no table is
 pub nothing_whole : (n : ℕ) (t : Table) (any : Bool) → Nothing ≡ Bounds t any → (table_view t).points ≡ n
-nothing_whole n t any e = absurd (let z : ◌≡◌ {A = ℕ} 0 1 = cc in omega arith)
+nothing_whole n t any e = cc
 
 -- an answer for a table of k points, told of a sheet of n
 pub answered : (n k : ℕ) (held shown : Shown) (a : Answer) → k ≡ n → shown ≡ held → Answers k (seen held) a → Answers n (seen shown) a

@@ -70,17 +70,6 @@ FirstBefore takes d calls n (Some w) =
 abbrev pub FirstRefused : {S : Type 0} → Takes S → Day S → List Call → Option (ℕ × Refusal) → Type 0
 FirstRefused takes d calls first = FirstBefore takes d calls (length calls) first
 
--- the first refusal, after one more call at place i
-abbrev pub earlier_of : Option (ℕ × Refusal) → ℕ → Option Refusal → Option (ℕ × Refusal)
-earlier_of (Some w) i refused = Some w
-earlier_of None i None = None
-earlier_of None i (Some why) = Some (i, why)
-
--- the later of two answers, if there is one
-abbrev pub later_of : Option Answer → Option Answer → Option Answer
-later_of before None = before
-later_of before (Some a) = Some a
-
 -- it is the answer of tightening a sheet of n points that shows this
 abbrev pub AnsweredFor : ℕ → Shown → Option Answer → Type 0
 AnsweredFor n shown None = ⊥

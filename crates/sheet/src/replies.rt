@@ -34,8 +34,8 @@ impl Reply {
         ensures { result ≡ refusal_of self }
     {
         match self {
-            Reply::Named(Err(why)) => Some(why),
-            Reply::Changed(Err(why)) => Some(why),
+            Reply::Named(result) => result.err(),
+            Reply::Changed(result) => result.err(),
             _ => None,
         }
     }

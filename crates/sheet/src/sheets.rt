@@ -20,9 +20,6 @@ mod posting;
 mod ruling;
 mod withdrawing;
 
-// The most points that a sheet has.
-pub const MOST_POINTS: usize = 64;
-
 // The most distance slips that stand.
 pub const MOST_SLIPS: usize = 256;
 
@@ -33,7 +30,7 @@ pub(crate) enum Shown {
     Nothing,
     // tightened, and no table is closed
     NoPlan,
-    // the tightened table, and whether every limit vouches for it
+    // the tightened table, and whether every limit vouches for it; a flag, as a verdict here could be "no plan"
     Bounds(Table, bool),
 }
 

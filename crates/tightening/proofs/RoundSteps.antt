@@ -1,7 +1,7 @@
 -- What each way out of a round shows.
-use Rattle.std.proofs.Common.{◌≡◌, ℕ, ◌<◌, ◌≤◌, ◌⊎◌, negsuc, ◌<ℤ◌, refl, inl, inr, ⊎_elim, arith}
+use Rattle.std.proofs.Common.{Ok, Err, Result, MatchResult, is_ok, true, false, ◌≡◌, ℕ, ◌<◌, ◌≤◌, ◌⊎◌, refl, sym, inl, inr, ⊎_elim, subst, arith}
 use Rattle.std.proofs.lemmas.Int.{ints, by_lt_z}
-use Rattle.std.proofs.lemmas.Bool.{cases_lt}
+use Rattle.std.proofs.lemmas.Bool.{cases_lt, false≢true}
 use Rattle.model.specs.Meanings.{Meaning, Lawful, AsTight}
 use Rattle.model.specs.Narrowings.{Narrowed}
 use Rattle.model.specs.Plans.{View, Tighter}
@@ -14,8 +14,17 @@ use Rattle.tables.specs.Closures.{Greatest, NoneUnder}
 use Rattle.tables.specs.Totals.{total}
 use Rattle.tables.specs.Views.{table_view}
 use Rattle.tables.specs.declared.tables.Table.{Table}
-use Rattle.tightening.specs.Asked.{RowsBounds, RowsRest}
+use Rattle.tightening.specs.Asked.{RowsBounds, RowsTooLow, RowsRest}
 use Rattle.tightening.specs.Rounds.{Keeps, Ends, Rests, Falls}
+
+-- what holds after a step that succeeded, and after one that failed
+pub at_ok : {T E : Type 0} (P Q : Type 0) (r : Result T E) → true ≡ is_ok r → MatchResult r (λ _. P) (λ _. Q) → P
+at_ok P Q (Ok _) e h = h
+at_ok P Q (Err _) e h = absurd (false≢true (sym e))
+
+pub at_err : {T E : Type 0} (P Q : Type 0) (r : Result T E) → false ≡ is_ok r → MatchResult r (λ _. P) (λ _. Q) → Q
+at_err P Q (Ok _) e h = absurd (false≢true e)
+at_err P Q (Err _) e h = h
 
 pub none_closed_below : (us : Uses) (r : Meaning) (m : View) → NoneUnder m → Ends us r m
 none_closed_below us r m none h slips held over = none_sound h m.points slips r m over none
@@ -28,8 +37,11 @@ module _ (us : Uses) (r : Meaning) (lawful : Lawful us r) (m x : View) (closed :
   pub refused_below : r.refuses x → Ends us r m
   refused_below refused h slips held over = over_refused h m.points slips r us lawful held x closed.sound (keeps_closed h slips held over) refused
 
-  -- the limits lower the bounds of x to b
-  module _ (b : View) (given : Narrowed (r.gives x) x b) where
+  -- the limits lower the bounds of x, copied, to b
+  module _ (v b : View) (copied : v ≡ x) (narrowed : Narrowed (r.gives x) v b) where
+    given : Narrowed (r.gives x) x b
+    given = subst (λ a. Narrowed (r.gives x) a b) copied narrowed
+
     pub rested : (r.refuses x → ⊥) → RowsRest x b x.points x.points → Rests us r m x
     rested fine rest = record {
       under = closed.under;
@@ -43,8 +55,8 @@ module _ (us : Uses) (r : Meaning) (lawful : Lawful us r) (m x : View) (closed :
     source : (i j : ℕ) → i < x.points → j < x.points → (b.at i j ≡ x.at i j) ⊎ r.gives x i j (b.at i j)
     source i j hi hj = (given.least i j hi hj).reached
 
-    pub too_low_below : (i j : ℕ) → i < x.points → j < x.points → b.at i j <ℤ negsuc 10079 → Ends us r m
-    too_low_below i j hi hj low h slips held over = ⊎_elim
+    pub too_low_below : RowsTooLow b x.points → Ends us r m
+    too_low_below (i, j, hi, hj, low) h slips held over = ⊎_elim
         (λ e. let l = sound_low x closed.sound i j in absurd (omega (arith, ints)))
         (λ g. let s = closed.under.same in over_deep_given h m.points slips r us lawful held x closed.sound (keeps_closed h slips held over) i j (b.at i j) (omega arith) (omega arith) g (omega (arith, ints)))
         (source i j hi hj)

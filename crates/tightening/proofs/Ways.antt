@@ -26,7 +26,7 @@ use Rattle.tightening.specs.Rounds.{Ends, Rests, Falls, Underway}
 -- ---- slips by number and in the list
 
 in_list : (xs : List (Numbered Distance)) (k : ℕ) (d : Distance) → lookup xs k ≡ Some d → In d (map what_of xs)
-in_list [] k d e = absurd (let z : ◌≡◌ {A = ℕ} 0 1 = cc in omega arith)
+in_list [] k d e = cc
 in_list (x ∷ xs) k d e = ⊎_elim
     (λ (same : k ≡ x.number). inl (first same))
     (λ ne. inr (in_list xs k d (later ne)))

@@ -26,6 +26,14 @@ RowBounds b i k p q v = (p ≡ i) × (q < k) × (v ≡ b.at p q)
 abbrev pub RowsBounds : View → ℕ → ℕ → ℕ → ℕ → ℤ → Type 0
 RowsBounds b n k p q v = (p < k) × (q < n) × (v ≡ b.at p q)
 
+-- some bound from i to the points below n is less than a table holds
+abbrev pub RowTooLow : View → ℕ → ℕ → Type 0
+RowTooLow b i n = (j : ℕ) × (j < n) × (b.at i j <ℤ negsuc 10079)
+
+-- some bound between the points below n is less than a table holds
+abbrev pub RowsTooLow : View → ℕ → Type 0
+RowsTooLow b n = (i : ℕ) × (j : ℕ) × (i < n) × (j < n) × (b.at i j <ℤ negsuc 10079)
+
 -- no bound from i is below the entry
 abbrev pub RowRests : View → View → ℕ → ℕ → Type 0
 RowRests m b i k = (j : ℕ) → j < k → m.at i j ≤ℤ b.at i j

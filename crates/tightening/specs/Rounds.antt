@@ -9,7 +9,7 @@ use Rattle.promise_laws.specs.Steps.{Over, Fits}
 use Rattle.tables.specs.Totals.{total}
 use Rattle.tables.specs.Views.{table_view}
 use Rattle.tightening.specs.declared.rounds.Round.{Round}
-use Rattle.tightening.specs.declared.rounds.Round.TheVariants.{Rest, Lower, NoPlan}
+use Rattle.tightening.specs.declared.rounds.Round.TheVariants.{Rest, Lower}
 
 -- every closed table below m is below x
 abbrev pub Keeps : Uses → Meaning → View → View → Type 0
@@ -36,7 +36,6 @@ pub record Falls (us : Uses) (r : Meaning) (m x : View) : Type 0 where
 abbrev pub Rounded : Uses → Meaning → View → Round → Type 0
 Rounded us r m (Rest t) = Rests us r m (table_view t)
 Rounded us r m (Lower t) = Falls us r m (table_view t)
-Rounded us r m NoPlan = Ends us r m
 
 -- a table on the way to the greatest closed one: it keeps to the day's length and slips, and every closed table is below it
 pub record Underway (h n : ℕ) (slips : Slips) (r : Meaning) (m : View) : Type 0 where

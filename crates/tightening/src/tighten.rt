@@ -6,6 +6,7 @@ ghost use Rattle.promise_laws.specs.Held.{UsesHeld};
 ghost use Rattle.register.specs.Standing.{items_of, stands};
 ghost use Rattle.tables.specs.Views.{table_view, start_view};
 ghost use Rattle.tightening.specs.Asked.{distances, TooLow, Posts};
+ghost use Rattle.tightening.specs.Meant.{meaning_of};
 
 use crate::asked::post_slips;
 use crate::rounds::{Round, next_round};
@@ -22,14 +23,9 @@ fn start<const MOST: usize>(
 ) -> Option<Table>
     ensures { MatchOption result ((points ≡ 0) ⊎ (64 < points) ⊎ (10080 < horizon) ⊎ TooLow (distances (items_of slips.now))) (λ t. Narrowed (Posts (distances (items_of slips.now))) (start_view points horizon) (table_view t)) }
 {
-    let Some(mut table) = Table::new(points, horizon) else {
-        return None;
-    };
-    if post_slips(&mut table, slips.as_slice()) {
-        Some(table)
-    } else {
-        None
-    }
+    let mut table = Table::new(points, horizon)?;
+    post_slips(&mut table, slips.as_slice()).ok()?;
+    Some(table)
 }
 
 // The greatest closed table of a day of so many minutes and points, with its standing distance slips and its limits, or None where
@@ -41,16 +37,13 @@ pub fn tightened<L: Rule, const MOST: usize>(
     slips: &Register<Distance, MOST>,
 ) -> Option<Table>
     ensures points { IfSome result (λ t. (table_view t).points ≡ points) }
-    ensures greatest { points ≤ 64 → horizon ≤ 10080 → UsesHeld points (L.Rule.uses limits.now) → SlipsHeld points (stands slips.now) → MatchOption result (NoneClosed horizon points (stands slips.now) (L.Rule.meaning (L.Rule.settings limits.now) (L.Rule.uses limits.now))) (λ t. Tightened horizon points (stands slips.now) (L.Rule.meaning (L.Rule.settings limits.now) (L.Rule.uses limits.now)) (table_view t)) }
+    ensures greatest { points ≤ 64 → horizon ≤ 10080 → UsesHeld points (L.Rule.uses limits.now) → SlipsHeld points (stands slips.now) → MatchOption result (NoneClosed horizon points (stands slips.now) (meaning_of L.Rule limits.now)) (λ t. Tightened horizon points (stands slips.now) (meaning_of L.Rule limits.now) (table_view t)) }
 {
-    let Some(mut table) = start(horizon, points, slips) else {
-        return None;
-    };
+    let mut table = start(horizon, points, slips)?;
     loop {
-        match next_round(limits, &table) {
+        match next_round(limits, &table)? {
             Round::Rest(found) => return Some(found),
             Round::Lower(lower) => table = lower,
-            Round::NoPlan => return None,
         }
     }
 }

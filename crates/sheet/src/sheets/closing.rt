@@ -1,9 +1,8 @@
 // Tightening a sheet.
 ghost use Rattle.std.specs.Prelude.{◌≡◌, ℕ};
 ghost use Rattle.promise_laws.specs.Held.{UsesHeld};
-ghost use Rattle.runs.specs.Days.{points};
 ghost use Rattle.runs.specs.Shown.{Shows, Answers, LooseWord, verdict_of, Shown as Seen};
-ghost use Rattle.sheet.specs.Sheets.{day_of, shown_of};
+ghost use Rattle.sheet.specs.Sheets.{points_of, shown_of, sheet_day};
 ghost use Rattle.tables.specs.Views.{table_view};
 
 use super::{Sheet, Shown};
@@ -18,9 +17,9 @@ use tightening::tighten::tightened;
 fn loose_word(table: &Table) -> u64
     ensures { LooseWord (table_view table.now) (table_view table.now).points result }
 {
-    let points = table.points();
     let mut word = 0u64;
-    for p in 0..points {
+    // a loop, since p is the bit that is set and no place in a list, and a fold would only hand the word on
+    for p in 0..table.points() {
         if table.get(0, p) + table.get(p, 0) > 0 {
             word |= 1 << p;
         }
@@ -41,7 +40,7 @@ fn verdict_of(vouched: bool) -> Verdict
 
 // The answer where no table is closed.
 pub(super) fn no_plan() -> Answer
-    ensures { (n : ℕ) → Answers n Seen.no_plan result }
+    ensures { Answers 0 Seen.no_plan result }
 {
     Answer {
         verdict: Verdict::NoPlan,
@@ -66,9 +65,9 @@ impl<L: Limit> Sheet<L> {
     // Finds the greatest closed table, or that there is none, and shows it. A sheet ruled and changed by its calls alone has no use
     // that names a point it lacks.
     pub fn tighten(&mut self) -> Answer
-        ensures day { day_of L.Rule.settings L.Rule.uses self.new ≡ day_of L.Rule.settings L.Rule.uses self.old }
-        ensures shows { UsesHeld (points (day_of L.Rule.settings L.Rule.uses self.old)) (L.Rule.uses self.old.limits) → Shows L.Rule.meaning (day_of L.Rule.settings L.Rule.uses self.old) (shown_of self.new) }
-        ensures answer { Answers (points (day_of L.Rule.settings L.Rule.uses self.old)) (shown_of self.new) result }
+        ensures day { sheet_day L.Limit self.new ≡ sheet_day L.Limit self.old }
+        ensures shows { UsesHeld (points_of self.old) (L.Rule.uses self.old.limits) → Shows L.Rule.meaning (sheet_day L.Limit self.old) (shown_of self.new) }
+        ensures answer { Answers (points_of self.old) (shown_of self.new) result }
     {
         match tightened(&self.limits, self.horizon, self.labels.len(), &self.slips) {
             None => {

@@ -1,24 +1,22 @@
 // Calls as values, one and many.
 ghost use Rattle.std.specs.Prelude.{◌≡◌};
-ghost use Rattle.runs.specs.Days.{after, points};
+ghost use Rattle.runs.specs.Days.{after};
 ghost use Rattle.runs.specs.Held.{Held};
 ghost use Rattle.runs.specs.Runs.{Settled};
 ghost use Rattle.runs.specs.Shown.{Shows};
-ghost use Rattle.sheet.specs.Replies.{Applied, FirstRefused, AnsweredFor, earlier_of, later_of};
-ghost use Rattle.sheet.specs.Sheets.{day_of, shown_of};
+ghost use Rattle.sheet.specs.Replies.{Applied, FirstRefused, AnsweredFor};
+ghost use Rattle.sheet.specs.Sheets.{points_of, shown_of, sheet_day, takes_of};
 
 use super::Sheet;
 use crate::replies::{Reply, Told};
-use model::refusals::Refusal;
 use rules::limit::Limit;
 use rules::rule::Rule;
-use runs::answers::Answer;
 use runs::calls::Call;
 
 impl<L: Limit> Sheet<L> {
     // Makes one call.
     pub fn apply(&mut self, call: Call<'_>) -> Reply
-        ensures { Applied (record { width = L.Rule.width; most = L.Limit.most; form = L.Limit.form }) L.Rule.meaning (day_of L.Rule.settings L.Rule.uses self.old) (shown_of self.old) (shown_of self.new) call.entry result (day_of L.Rule.settings L.Rule.uses self.new) }
+        ensures { Applied (takes_of L.Limit) L.Rule.meaning (sheet_day L.Limit self.old) (shown_of self.old) (shown_of self.new) call.entry result (sheet_day L.Limit self.new) }
     {
         match call {
             Call::Name(text) => Reply::Named(self.name(text)),
@@ -36,42 +34,18 @@ impl<L: Limit> Sheet<L> {
 
     // Makes the calls one after another. A refused call changes nothing, and the calls after it are made all the same.
     pub fn play(&mut self, calls: &[Call<'_>]) -> Told
-        ensures day { day_of L.Rule.settings L.Rule.uses self.new ≡ after (record { width = L.Rule.width; most = L.Limit.most; form = L.Limit.form }) (day_of L.Rule.settings L.Rule.uses self.old) calls.now }
-        ensures refused { FirstRefused (record { width = L.Rule.width; most = L.Limit.most; form = L.Limit.form }) (day_of L.Rule.settings L.Rule.uses self.old) calls.now result.refused }
-        ensures shows { Held (day_of L.Rule.settings L.Rule.uses self.old) → Settled (record { width = L.Rule.width; most = L.Limit.most; form = L.Limit.form }) (day_of L.Rule.settings L.Rule.uses self.old) calls.now → Shows L.Rule.meaning (day_of L.Rule.settings L.Rule.uses self.new) (shown_of self.new) }
-        ensures answer { Settled (record { width = L.Rule.width; most = L.Limit.most; form = L.Limit.form }) (day_of L.Rule.settings L.Rule.uses self.old) calls.now → AnsweredFor (points (day_of L.Rule.settings L.Rule.uses self.new)) (shown_of self.new) result.answer }
+        ensures day { sheet_day L.Limit self.new ≡ after (takes_of L.Limit) (sheet_day L.Limit self.old) calls.now }
+        ensures refused { FirstRefused (takes_of L.Limit) (sheet_day L.Limit self.old) calls.now result.refused }
+        ensures shows { Held (sheet_day L.Limit self.old) → Settled (takes_of L.Limit) (sheet_day L.Limit self.old) calls.now → Shows L.Rule.meaning (sheet_day L.Limit self.new) (shown_of self.new) }
+        ensures answer { Settled (takes_of L.Limit) (sheet_day L.Limit self.old) calls.now → AnsweredFor (points_of self.new) (shown_of self.new) result.answer }
     {
         let mut refused = None;
         let mut answer = None;
         for (i, call) in calls.iter().enumerate() {
             let reply = self.apply(*call);
-            refused = earlier(refused, i, reply.refusal());
-            answer = later(answer, reply.answer());
+            refused = refused.or(reply.refusal().map(|why| (i, why)));
+            answer = reply.answer().or(answer);
         }
         Told { refused, answer }
-    }
-}
-
-// The later of two answers.
-fn later(before: Option<Answer>, answer: Option<Answer>) -> Option<Answer>
-    ensures { result ≡ later_of before answer }
-{
-    match answer {
-        Some(_) => answer,
-        None => before,
-    }
-}
-
-// The first refusal: the one that there is already, or else this one, at place i.
-fn earlier(
-    first: Option<(usize, Refusal)>,
-    i: usize,
-    refused: Option<Refusal>,
-) -> Option<(usize, Refusal)>
-    ensures { result ≡ earlier_of first i refused }
-{
-    match (first, refused) {
-        (None, Some(why)) => Some((i, why)),
-        _ => first,
     }
 }

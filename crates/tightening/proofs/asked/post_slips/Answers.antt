@@ -1,16 +1,16 @@
-use Rattle.std.proofs.Common.{◌≡◌, cond, [], ◌∷◌, get_or, take, pos, negsuc, ◌≤ℤ◌, sym, ap, ◌∙◌, subst, arith, take_all, w32, to_z, of_z}
+use Rattle.std.proofs.Common.{[], ◌∷◌, get_or, take, pos, sym, ap, ◌∙◌, subst, arith, take_all}
 use mathlib.Core.List.{map-append}
-use lib.Signed.{le_z}
 use Rattle.std.proofs.lemmas.List.{take_more}
 use Rattle.std.proofs.lemmas.Int.{ints}
+use Rattle.std.proofs.lemmas.Result.{err_from_is_err_and}
 use Rattle.model.proofs.Members.{in_at}
 use Rattle.model.specs.Narrowings.{Narrowed}
 use Rattle.register.specs.Lookups.{what_of}
 use Rattle.register.specs.declared.records.Numbered.{Numbered}
 use Rattle.model.specs.declared.slips.Distance.{Distance}
-use Rattle.tables.specs.Views.{table_view, lowered}
+use Rattle.tables.specs.Views.{table_view}
 use Rattle.tightening.specs.Asked.{distances, Posts}
-use Rattle.tightening.proofs.Passes.{lowered_table, posts_more}
+use Rattle.tightening.proofs.Passes.{posts_more}
 use Rattle.tightening.proofs.asked.post_slips.Goals as goal
 
 abbrev blank : Numbered Distance
@@ -21,20 +21,16 @@ loop-slip-preserved c =
     let xs = c.args.slips.now in
     let i = c.loop-slip.slip-index in
     let d = (get_or xs i blank).what in
-    let m = table_view c.loop-slip.table in
-    let after = table_view c.lower.new.self in
-    let low : negsuc 10079 ≤ℤ d.minutes = omega (arith, ints) in
-    let fits : to_z w32 (of_z w32 d.minutes) ≡ d.minutes = omega (arith, ints) in
-    let e : after ≡ cond (le_z (negsuc 10079) d.minutes) (lowered m d.from d.to d.minutes) m = subst (λ v. after ≡ cond (le_z (negsuc 10079) v) (lowered m d.from d.to v) m) fits c.lower.ensures in
-    subst (λ ds. Narrowed (Posts ds) (table_view c.args.table.now) after)
+    subst (λ ds. Narrowed (Posts ds) (table_view c.args.table.now) (table_view c.ask.new.table))
     (sym (ap distances (take_more xs i blank c.loop-slip-test.true) ∙ map-append what_of (take i xs) (get_or xs i blank ∷ [])))
-    (posts_more (distances (take i xs)) d (table_view c.args.table.now) m after c.loop-slip.invariant (lowered_table m after d.from d.to d.minutes e low))
+    (posts_more (distances (take i xs)) d _ (table_view c.args.table.now) (table_view c.loop-slip.table) (table_view c.ask.new.table) (omega (arith, ints)) c.loop-slip.invariant c.in_ok-ask.ensures)
 
 pub returns : goal.returns
 returns c = subst (λ xs. Narrowed (Posts (distances xs)) (table_view c.args.table.now) (table_view c.loop-slip.table)) (take_all _ _ c.loop-slip-test.false) c.loop-slip.invariant
 
-pub returns-then-distance-lt-LOWEST : goal.returns-then-distance-lt-LOWEST
-returns-then-distance-lt-LOWEST c =
+pub returns-in_err-ask : goal.returns-in_err-ask
+returns-in_err-ask c =
     let xs = c.args.slips.now in
     let i = c.loop-slip.slip-index in
-    ((get_or xs i blank).what, in_at what_of xs i blank c.loop-slip-test.true, omega (arith, ints))
+    let low = c.in_err-ask.ensures in
+    rw (err_from_is_err_and c.from_residual.result c.from_residual.ensures.1).1 ((get_or xs i blank).what, in_at what_of xs i blank c.loop-slip-test.true, omega (arith, ints))

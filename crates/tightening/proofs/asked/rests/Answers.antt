@@ -1,5 +1,13 @@
-use Rattle.std.proofs.Common.{◌<◌, subst, below_more}
+use Rattle.std.proofs.Common.{ℕ, refl, arith, rules}
+use Rattle.std.proofs.lemmas.Iterator.{cases_from_all, YieldsList-from_range}
+use borrow.Author.Tests.{tests}
+use Rattle.tables.specs.Views.{bounds_view, table_view}
+use Rattle.tightening.specs.Asked.{RowRests}
+use Rattle.tightening.proofs.Passes.{decides_below}
 use Rattle.tightening.proofs.asked.rests.Goals as goal
 
-pub loop-i-preserved : goal.loop-i-preserved
-loop-i-preserved c = below_more _ _ c.loop-i.invariant (λ j h. c.row_rests.ensures.0 c.if-not-row_rests.false j (subst (λ n. j < n) c.points-points.ensures h))
+pub returns : goal.returns
+returns c =
+    let m = table_view c.args.table.now in
+    let keeps : ℕ → Type 0 = λ i. RowRests m (bounds_view c.args.bounds.now) i m.points in
+    decides_below _ keeps _ (cases_from_all _ _ _ keeps (λ i. keeps i → ⊥) c.all.ensures.ran (YieldsList-from_range 0 c.points.result _ refl (omega arith)) (λ x q k. search (rules, tests)) (λ x q k. search (rules, tests)))
