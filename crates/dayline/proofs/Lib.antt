@@ -1,5 +1,3 @@
-pub mod Digits
-pub mod ByteNumbers
 pub mod WrittenBack
 pub mod Pieces
 pub mod Wholes

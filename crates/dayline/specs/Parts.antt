@@ -1,32 +1,19 @@
 -- A text parted by a byte.
-use Rattle.std.specs.Prelude.{◌≡◌, ℕ, zero, suc, ◌+◌, ◌-◌, ◌<◌, cond, List, [], ◌∷◌, ◌++◌, length, ◌==◌, ◌≢◌, slice_index, slice_index_or}
-
--- a byte before the first part
-abbrev pub onto : ℕ → List (List ℕ) → List (List ℕ)
-onto b [] = []
-onto b (p ∷ ps) = (b ∷ p) ∷ ps
+use Rattle.std.specs.Prelude.{◌≡◌, ℕ, zero, suc, ◌+◌, ◌-◌, ◌<◌, cond, List, [], ◌∷◌, length, take, ◌==◌, ◌≢◌, slice_index, slice_index_or}
+use Rattle.std.specs.List.{slice_split, join_with_byte}
 
 -- the parts of a text before, between and after the places of one byte
 abbrev pub parts : ℕ → List ℕ → List (List ℕ)
-parts at [] = [] ∷ []
-parts at (b ∷ bs) = cond (b == at) ([] ∷ parts at bs) (onto b (parts at bs))
-
--- parts with that byte between them
-abbrev pub joined_by : ℕ → List (List ℕ) → List ℕ
-joined_by at [] = []
-joined_by at (p ∷ []) = p
-joined_by at (p ∷ q ∷ ps) = p ++ at ∷ joined_by at (q ∷ ps)
+parts at text = slice_split (λ b. b == at) text
 
 -- put together again the parts are the text, and none of them has the byte
 pub record Parted (at : ℕ) (text : List ℕ) (ps : List (List ℕ)) : Type 0 where
-  pub whole : joined_by at ps ≡ text
+  pub whole : join_with_byte at ps ≡ text
   pub free : (i k : ℕ) → i < length ps → k < length (slice_index_or ps i []) → slice_index (slice_index_or ps i []) k ≢ at
 
 -- all but the last
 abbrev pub front : List (List ℕ) → List (List ℕ)
-front [] = []
-front (p ∷ []) = []
-front (p ∷ q ∷ ps) = p ∷ front (q ∷ ps)
+front ps = take (length ps - 1) ps
 
 -- each line ends with byte 10: what stands behind the last one is no line
 abbrev pub lines_of : List ℕ → List (List ℕ)

@@ -1,6 +1,6 @@
 // A text parted by a byte: a file into its lines, a line into its fields.
-ghost use Rattle.std.specs.Prelude.{◌≡◌, ℕ, ◌+◌, ◌<◌, ◌≤◌, [], ◌∷◌, map, length, drop, IfOk, MatchOption, slice_index_or};
-ghost use Rattle.std.specs.Option.{option_map, unwrap_or};
+ghost use Rattle.std.specs.Prelude.{◌≡◌, ◌+◌, ◌≤◌, [], ◌∷◌, map, length, drop, IfOk, MatchOption, slice_get};
+ghost use Rattle.std.specs.Option.{option_map};
 ghost use Rattle.dayline.specs.Parts.{Parted, parts, place_of, lines_of, line_of};
 
 use std::alloc::{AllocError, Global};
@@ -9,12 +9,8 @@ use std::alloc::{AllocError, Global};
 pub(crate) fn cut(text: &[u8], at: u8) -> Option<(&[u8], &[u8])>
     ensures { MatchOption result (parts at text.now ≡ text.now ∷ []) (λ p. (parts at text.now ≡ p.0.now ∷ parts at p.1.now) × (length p.0.now + 1 + length p.1.now ≡ length text.now)) }
 {
-    for (i, b) in text.iter().enumerate() {
-        if *b == at {
-            return Some((&text[0..i], &text[i + 1..]));
-        }
-    }
-    None
+    let place = text.iter().position(|b| *b == at)?;
+    Some((&text[..place], &text[place + 1..]))
 }
 
 // How often the byte stands in the text: once less than there are parts.
@@ -22,13 +18,7 @@ pub fn count(text: &[u8], at: u8) -> usize
     ensures value { result + 1 ≡ length (parts at text.now) }
     ensures parted { Parted at text.now (parts at text.now) }
 {
-    let mut found = 0;
-    for b in text {
-        if *b == at {
-            found += 1;
-        }
-    }
-    found
+    text.iter().filter(|b| **b == at).count()
 }
 
 // The text from its part n on, counted from 0; none where it has no such part.
@@ -36,11 +26,9 @@ pub(crate) fn skip(text: &[u8], at: u8, n: usize) -> Option<&[u8]>
     ensures { MatchOption result (length (parts at text.now) ≤ n) (λ x. (drop n (parts at text.now) ≡ parts at x.now) × (place_of n (parts at text.now) + length x.now ≡ length text.now)) }
 {
     let mut rest = text;
+    // each turn cuts what the one before left, so a fold of n turns would say no more
     for _i in 0..n {
-        let Some((_, after)) = cut(rest, at) else {
-            return None;
-        };
-        rest = after;
+        rest = cut(rest, at)?.1;
     }
     Some(rest)
 }
@@ -49,24 +37,19 @@ pub(crate) fn skip(text: &[u8], at: u8, n: usize) -> Option<&[u8]>
 pub fn split_lines(heap: Global, text: &[u8]) -> Result<Vec<&[u8]>, AllocError>
     ensures { IfOk result (λ v. map (λ x. x.now) v.items ≡ lines_of text.now) }
 {
-    let mut lines = Vec::new(heap);
-    let mut left = text;
-    while let Some((line, after)) = cut(left, b'\n') {
-        lines.push(line)?;
-        left = after;
-    }
+    let mut lines = text.split(|b| *b == b'\n').collect::<Vec<_>>(heap)?;
+    // what stands behind the last line feed is no line
+    lines.pop();
     Ok(lines)
 }
 
 // The line at that index, counted from 0; none where there is none.
 fn line_at(text: &[u8], index: usize) -> Option<&[u8]>
-    ensures { unwrap_or (option_map (λ x. x.now) result) [] ≡ slice_index_or (lines_of text.now) index [] }
+    ensures { option_map (λ x. x.now) result ≡ slice_get (lines_of text.now) index }
 {
     let rest = skip(text, b'\n', index)?;
-    match cut(rest, b'\n') {
-        Some((line, _)) => Some(line),
-        None => None,
-    }
+    let (line, _) = cut(rest, b'\n')?;
+    Some(line)
 }
 
 // The line of that number, counted from 1, without its line feed; empty where there is none.
@@ -74,10 +57,7 @@ pub fn line_of(text: &[u8], number: usize) -> &[u8]
     ensures { result.now ≡ line_of text.now number }
 {
     if number == 0 {
-        return &text[0..0];
+        return &[];
     }
-    match line_at(text, number - 1) {
-        Some(line) => line,
-        None => &text[0..0],
-    }
+    line_at(text, number - 1).unwrap_or(&[])
 }

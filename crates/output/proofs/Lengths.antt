@@ -7,10 +7,11 @@ use Rattle.std.proofs.lemmas.Int.{ints}
 use Rattle.std.specs.Fmt.{signed_decimal}
 use Rattle.model.specs.Labels.{text_of}
 use Rattle.model.specs.Plans.{View}
+use Rattle.model.specs.Verdicts.{word_of}
 use Rattle.model.specs.declared.labels.Label.{Label}
 use Rattle.model.specs.declared.verdicts.Verdict.{Verdict}
 use Rattle.model.specs.declared.verdicts.Verdict.TheVariants.{NoPlan, Open, AnyPlan}
-use Rattle.output.specs.Output.{earliest_of, latest_of, point_line, point_lines, point_table, word_of, verdict_table}
+use Rattle.output.specs.Output.{earliest_of, latest_of, point_line, point_lines, point_table, verdict_table}
 use Rattle.runs.specs.declared.answers.Answer.{Answer}
 
 -- a number from -10,081 to 10,081

@@ -20,8 +20,8 @@ use Rattle.texts.proofs.Cuts.{cut_none, cut_on}
 use Rattle.texts.specs.Texts.{cut}
 
 some_verdict : (any : Bool) → verdict_of any ≡ NoPlan → ⊥
-some_verdict true e = let z : ◌≡◌ {A = ℕ} 0 1 = cc in omega arith
-some_verdict false e = let z : ◌≡◌ {A = ℕ} 0 1 = cc in omega arith
+some_verdict true e = cc
+some_verdict false e = cc
 
 -- "open" and "any plan" are not "no plan"
 pub open_or_any : (v : Verdict) → (v ≡ Open) ⊎ (v ≡ AnyPlan) → v ≡ NoPlan → ⊥

@@ -2,8 +2,7 @@
 use Rattle.std.specs.Prelude.{ℕ, suc, List, [], ◌∷◌, ◌++◌, ℤ, neg_ℤ, codes, decimal}
 use Rattle.std.specs.Fmt.{signed_decimal}
 use Rattle.model.specs.Plans.{View}
-use Rattle.model.specs.declared.verdicts.Verdict.{Verdict}
-use Rattle.model.specs.declared.verdicts.Verdict.TheVariants.{NoPlan, Open, AnyPlan}
+use Rattle.model.specs.Verdicts.{word_of}
 use Rattle.runs.specs.Shown.{Shown}
 use Rattle.runs.specs.declared.answers.Answer.{Answer}
 
@@ -37,11 +36,6 @@ abbrev pub point_table : View → List (List ℕ) → List ℕ
 point_table m labels = line (codes "label" ∷ codes "earliest" ∷ codes "latest" ∷ []) ++ point_lines m 0 labels
 
 -- ---- the verdict
-
-abbrev pub word_of : Verdict → List ℕ
-word_of NoPlan = codes "noplan"
-word_of Open = codes "open"
-word_of AnyPlan = codes "any"
 
 -- the table of the verdict: its line of names, and one line with the word and the count of loose points
 abbrev pub verdict_table : Answer → List ℕ

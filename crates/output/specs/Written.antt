@@ -4,7 +4,6 @@ use Rattle.model.specs.declared.refusals.Refusal.{Refusal}
 use Rattle.model.specs.declared.refusals.Refusal.TheVariants.{NotTightened, BufferShort}
 use Rattle.runs.specs.Shown.{Shown, Answers}
 use Rattle.runs.specs.declared.answers.Answer.{Answer}
-use Rattle.texts.specs.Texts.{bytes_of}
 use Rattle.texts.specs.declared.texts.Text.{Text}
 use Rattle.output.specs.Output.{output_of}
 
@@ -17,7 +16,7 @@ module _ (labels : List (List ℕ)) (shown : Shown) where
 
   -- the text of the output; refused where nothing is shown
   abbrev pub IsText : Result Text Refusal → Type 0
-  IsText (Ok text) = IsOutput (bytes_of text)
+  IsText (Ok text) = IsOutput text
   IsText (Err why) = (shown ≡ Shown.nothing) × (why ≡ NotTightened)
 
   -- Writing into a buffer. The output stands at the front, its length is told, and the bytes behind it stay. Refused where nothing

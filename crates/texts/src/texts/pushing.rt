@@ -1,70 +1,65 @@
 // Putting a text together. What would come behind the 1,536th byte is left out.
-ghost use Rattle.std.specs.Prelude.{◌≡◌, ◌+◌, ◌%◌, [], ◌∷◌, ◌++◌, decimal};
+ghost use Rattle.std.specs.Prelude.{◌≡◌, ◌≤◌, [], ◌∷◌, ◌++◌, length, decimal};
 ghost use Rattle.std.specs.Fmt.{signed_decimal};
-ghost use Rattle.texts.specs.Texts.{bytes_of, cut};
+ghost use Rattle.texts.specs.Texts.{cut};
 
-use super::{MOST_BYTES, Text};
-
-// The last digit of a number, as a byte.
-fn last_digit(number: u32) -> u8
-    ensures { result ≡ 48 + number % 10 }
-{
-    b'0' + (number % 10) as u8
-}
+use super::Text;
+use arrayvec::ArrayVec;
+use itoa::{Buffer, Integer};
 
 impl Text {
     // A text without bytes.
     pub fn new() -> Text
-        ensures { bytes_of result ≡ [] }
+        ensures { result ≡ [] }
     {
         Text {
-            bytes: [0; MOST_BYTES],
-            len: 0,
+            bytes: ArrayVec::new(),
         }
     }
 
     pub fn as_bytes(&self) -> &[u8]
-        ensures { result.now ≡ bytes_of self.now }
+        ensures value { result.now ≡ self.now }
+        ensures short { length result.now ≤ 1536 }
     {
-        &self.bytes[0..self.len]
+        self.bytes.as_slice()
     }
 
     // Appends a byte.
     pub fn push(&mut self, byte: u8)
-        ensures { bytes_of self.new ≡ cut (bytes_of self.old ++ byte ∷ []) }
+        ensures { self.new ≡ cut (self.old ++ byte ∷ []) }
     {
-        if self.len < MOST_BYTES {
-            self.bytes[self.len] = byte;
-            self.len += 1;
-        }
+        let _ = self.bytes.try_push(byte);
     }
 
     // Appends bytes.
     pub fn push_bytes(&mut self, bytes: &[u8])
-        ensures { bytes_of self.new ≡ cut (bytes_of self.old ++ bytes.now) }
+        ensures { self.new ≡ cut (self.old ++ bytes.now) }
     {
-        for byte in bytes {
-            self.push(*byte);
-        }
+        // the vector takes a slice whole or not at all
+        let room = self.bytes.remaining_capacity();
+        let fitting = &bytes[..room.min(bytes.len())];
+        let _ = self.bytes.try_extend_from_slice(fitting);
     }
 
     // Appends a number in decimal.
     pub fn push_unsigned(&mut self, number: u32)
-        ensures { bytes_of self.new ≡ cut (bytes_of self.old ++ decimal number) }
+        ensures { self.new ≡ cut (self.old ++ decimal number) }
     {
-        if number >= 10 {
-            self.push_unsigned(number / 10);
-        }
-        self.push(last_digit(number));
+        self.push_number::<u32>(number);
     }
 
     // Appends a number in decimal, a minus before it where it is below 0.
     pub fn push_signed(&mut self, number: i32)
-        ensures { bytes_of self.new ≡ cut (bytes_of self.old ++ signed_decimal number) }
+        ensures { self.new ≡ cut (self.old ++ signed_decimal number) }
     {
-        if number < 0 {
-            self.push(b'-');
-        }
-        self.push_unsigned(number.unsigned_abs());
+        self.push_number::<i32>(number);
+    }
+
+    // Appends a number as its type writes it in decimal.
+    fn push_number<N: Integer>(&mut self, number: N)
+        ensures { self.new ≡ cut (self.old ++ N.text number) }
+    {
+        let mut digits = Buffer::new();
+        self.push_bytes(digits.format(number).as_bytes());
     }
 }

@@ -2,7 +2,7 @@ use Rattle.std.proofs.Common.{◌^◌, ◌<◌, ◌≤◌, [], ◌++◌, map, le
 use Rattle.model.specs.Labels.{text_of}
 use Rattle.output.proofs.Wholes.{open_or_any, short_output, long_output}
 use Rattle.output.specs.Output.{line, point_table, verdict_table}
-use Rattle.texts.specs.Texts.{bytes_of, cut}
+use Rattle.texts.specs.Texts.{cut}
 use Rattle.output.proofs.writing.text_of.Goals as goal
 use Rattle.output.proofs.writing.text_of.Goals.{in-NoPlan, in-Open+in_ok-push_table-in-Open}
 
@@ -16,11 +16,11 @@ returns g c =
     let none = c.new-text.ensures in
     elim c.match-answer.branch [
       | in-NoPlan w ↦
-          short_output labels few a small x.shown (bytes_of c.push_verdict.new.text) c.in_ok-answer.ensures w.in-NoPlan.is
-          (c.push_verdict.ensures ∙ ap (λ s. cut (s ++ verdict_table a)) (ap bytes_of w.text-is ∙ none))
+          short_output labels few a small x.shown (c.push_verdict.new.text) c.in_ok-answer.ensures w.in-NoPlan.is
+          (c.push_verdict.ensures ∙ ap (λ s. cut (s ++ verdict_table a)) (w.text-is ∙ none))
       | in-Open+in_ok-push_table-in-Open w ↦
-          long_output labels few a small x.shown (bytes_of c.match-answer.text) (bytes_of c.push_verdict.new.text) c.in_ok-answer.ensures
+          long_output labels few a small x.shown (c.match-answer.text) (c.push_verdict.new.text) c.in_ok-answer.ensures
           (open_or_any a.verdict w.in-Open.is)
-          (λ m any shown. ap bytes_of w.text-is ∙ ((w.push_table.ensures m any shown).1 ∙ ap (λ s. cut (s ++ (point_table m (map text_of labels) ++ line []))) none))
+          (λ m any shown. w.text-is ∙ ((w.push_table.ensures m any shown).1 ∙ ap (λ s. cut (s ++ (point_table m (map text_of labels) ++ line []))) none))
           c.push_verdict.ensures
     ]

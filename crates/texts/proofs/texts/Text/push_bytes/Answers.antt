@@ -1,14 +1,19 @@
-use Rattle.std.proofs.Common.{◌++◌, refl, ap, ◌∙◌}
-use Rattle.std.proofs.lemmas.List.{take_all}
-use Rattle.texts.specs.Texts.{bytes_of, cut}
-use Rattle.texts.proofs.Cuts.{cut_nil, cut_more}
+use Rattle.std.proofs.Common.{◌+◌, ◌≤◌, length, take, Ok, Err, Result, arith}
+use Rattle.std.proofs.lemmas.List.{length-take, take_min}
+use Rattle.std.specs.Result.{IsOk, OnOk}
+use Rattle.texts.proofs.Cuts.{cut_room}
 use Rattle.texts.proofs.texts.Text.push_bytes.Goals as goal
 
-pub loop-byte-init : goal.loop-byte-init
-loop-byte-init c = cut_nil c.args.self.now
-
-pub loop-byte-preserved : goal.loop-byte-preserved
-loop-byte-preserved c = cut_more (bytes_of c.args.self.now) _ _ c.args.bytes.now c.loop-byte.byte-index _ c.loop-byte-test.true c.loop-byte.invariant refl c.push.ensures
+on_ok : {T E P : Type 0} (r : Result T E) → IsOk r → OnOk r P → P
+on_ok (Ok x) ok p = p
+on_ok (Err why) ok p = cc
 
 pub returns : goal.returns
-returns c = c.loop-byte.invariant ∙ ap (λ l. cut (bytes_of c.args.self.now ++ l)) (take_all _ _ c.loop-byte-test.false)
+returns c =
+    let old = c.self.inside.bytes.items in
+    let bytes = c.args.bytes.now in
+    let room = c.remaining_capacity-room.result in
+    let extend = c.try_extend_from_slice in
+    let fits : length old + length (take c.min.result bytes) ≤ 1536 = simp length-take (grind arith) in
+    let appended = on_ok extend.result (extend.ensures.variant.1 fits) extend.ensures.ok in
+    rw (← c.self.view_is, appended, c.min.ensures, take_min) (cut_room old bytes room c.remaining_capacity-room.ensures)
