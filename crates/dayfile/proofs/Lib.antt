@@ -1,4 +1,3 @@
 pub mod LineSteps
-pub mod Notes
 pub mod Orders
 pub mod Sounds

@@ -7,7 +7,8 @@ use Rattle.daytables.specs.Faults.{refusal_of}
 use Rattle.daytables.specs.Tables.{Came, takes, may_end}
 use Rattle.daytables.specs.declared.due.Due.{Due}
 use Rattle.daytables.specs.declared.faults.LineFault.{LineFault}
-use Rattle.dayfile.specs.Reading.{Read, place_at, noted, refused, line_read, read_from}
+use Rattle.dayfile.specs.Files.{place_at}
+use Rattle.dayfile.specs.Reading.{Read, noted, refused, line_read, read_from}
 use Rattle.dayfile.specs.declared.faults.DayFile.{DayFile}
 
 -- the lines that are left, from line n on

@@ -1,7 +1,8 @@
 -- Every reading keeps a place for each call, and has two bunkers unless there is a fault.
-use Rattle.std.proofs.Common.{◌≡◌, ℕ, ◌+◌, Bool, true, false, cond, eqb, List, [], ◌∷◌, length, take, drop, Some, None, Ok, Err, Option, Result, refl, ap, ◌∙◌, arith}
+use Rattle.std.proofs.Common.{◌≡◌, ℕ, ◌+◌, Bool, true, false, cond, eqb, List, [], ◌∷◌, length, take, drop, Some, None, Ok, Err, Option, Result, IfOk, refl, ap, ◌∙◌}
 use Rattle.std.proofs.lemmas.List.{length_push}
 use Rattle.std.specs.Str.{bytes_eq}
+use Rattle.dayline.specs.Parts.{lines_of}
 use Rattle.model.specs.declared.refusals.Refusal.{Refusal}
 use Rattle.model.specs.declared.refusals.Refusal.TheVariants.{LineNotDue}
 use Rattle.daytables.specs.Rows.{floor_row, label_row, slip_row, place_row, ok_map}
@@ -13,14 +14,12 @@ use Rattle.daytables.specs.declared.due.Table.TheVariants as table
 use Rattle.daytables.specs.declared.due.Table.TheVariants.{Floor, Label, Slip}
 use Rattle.daytables.specs.declared.faults.LineFault.{LineFault}
 use Rattle.daytables.specs.declared.faults.LineFault.TheVariants.{NotDue}
-use Rattle.dayfile.specs.Reading.{Read, unread, place_at, noted, refused, line_read, read_from, unless_fault, go_on, read_lines, Sound}
+use Rattle.dayfile.specs.Files.{place_at, outcome}
+use Rattle.dayfile.specs.Reading.{Read, unread, noted, refused, line_read, read_from, unless_fault, go_on, read_lines, if_readable, reads, Sound}
 use Rattle.dayfile.specs.declared.faults.DayFile.{DayFile}
 use Rattle.dayfile.specs.declared.faults.DayFile.TheVariants.{Bridge, Hall}
 use Rattle.dayfile.specs.declared.faults.Fault.{Fault}
 use Rattle.dayfile.specs.declared.faults.Place.{Place}
-
-some_none : (f : Fault) → ◌≡◌ {A = Option Fault} (Some f) None → ⊥
-some_none f e = let z : ◌≡◌ {A = ℕ} 0 1 = cc in omega arith
 
 -- ---- how many bunkers there are where something is due
 
@@ -28,31 +27,17 @@ abbrev bunkers_at : Due → ℕ
 bunkers_at FloorNames = 0
 bunkers_at FirstBunker = 0
 bunkers_at SecondBunker = 1
-bunkers_at FloorEnd = 2
-bunkers_at LabelNames = 2
-bunkers_at LabelRows = 2
-bunkers_at SlipNames = 2
-bunkers_at SlipRows = 2
-bunkers_at PlaceNames = 2
-bunkers_at PlaceRows = 2
-bunkers_at FileEnd = 2
+bunkers_at _ = 2
 
 abbrev one_more : Said → ℕ → ℕ
-one_more nothing n = n
 one_more (makes b) n = n + 1
-one_more (names word) n = n
-one_more (posts e) n = n
+one_more _ n = n
 
--- P of what is read
-abbrev OkAll : {A : Type 0} → (A → Type 0) → Result A LineFault → Type 0
-OkAll P (Ok x) = P x
-OkAll P (Err why) = Unit {0}
-
-ok_cond : {A : Type 0} (P : A → Type 0) (b : Bool) (x y : Result A LineFault) → OkAll P x → OkAll P y → OkAll P (cond b x y)
+ok_cond : {A : Type 0} (P : A → Type 0) (b : Bool) (x y : Result A LineFault) → IfOk x P → IfOk y P → IfOk (cond b x y) P
 ok_cond P true x y h k = h
 ok_cond P false x y h k = k
 
-ok_map_holds : {A B : Type 0} (P : B → Type 0) (f : A → B) (r : Result A LineFault) → ((x : A) → P (f x)) → OkAll P (ok_map f r)
+ok_map_holds : {A B : Type 0} (P : B → Type 0) (f : A → B) (r : Result A LineFault) → ((x : A) → P (f x)) → IfOk (ok_map f r) P
 ok_map_holds P f (Ok x) h = h x
 ok_map_holds P f (Err why) h = tt
 
@@ -60,47 +45,37 @@ ok_map_holds P f (Err why) h = tt
 abbrev Counts : Due → Came → Type 0
 Counts due c = one_more c.said (bunkers_at due) ≡ bunkers_at c.next
 
-names_count : (due : Due) (table : Table) (next : Due) (l : List ℕ) → bunkers_at due ≡ bunkers_at next → OkAll (Counts due) (names_due table next l)
+names_count : (due : Due) (table : Table) (next : Due) (l : List ℕ) → bunkers_at due ≡ bunkers_at next → IfOk (names_due table next l) (Counts due)
 names_count due table next l e = ok_cond (Counts due) (bytes_eq l (names_of table)) (Ok (came next nothing)) (Err NotDue) e tt
 
-bunker_counts : (due next : Due) (l : List ℕ) → bunkers_at due + 1 ≡ bunkers_at next → OkAll (Counts due) (filled l (ok_map (λ b. came next (makes b)) (floor_row l)))
-bunker_counts due next l e =
-    ok_cond (Counts due) (eqb (length l) 0) (Err NotDue) (ok_map (λ b. came next (makes b)) (floor_row l)) tt (ok_map_holds (Counts due) (λ b. came next (makes b)) (floor_row l) (λ b. e))
+bunker_counts : (due next : Due) (l : List ℕ) → bunkers_at due + 1 ≡ bunkers_at next → IfOk (filled l (ok_map (λ b. came next (makes b)) (floor_row l))) (Counts due)
+bunker_counts due next l e = ok_cond (Counts due) (eqb (length l) 0) (Err NotDue) (ok_map (λ b. came next (makes b)) (floor_row l)) tt (ok_map_holds (Counts due) (λ b. came next (makes b)) (floor_row l) (λ b. e))
 
-closed_counts : {A : Type 0} (due next : Due) (l : List ℕ) (f : A → Came) (row : Result A LineFault) → bunkers_at due ≡ bunkers_at next → ((x : A) → Counts due (f x)) → OkAll (Counts due) (closed_or next l (ok_map f row))
+closed_counts : {A : Type 0} (due next : Due) (l : List ℕ) (f : A → Came) (row : Result A LineFault) → bunkers_at due ≡ bunkers_at next → ((x : A) → Counts due (f x)) → IfOk (closed_or next l (ok_map f row)) (Counts due)
 closed_counts due next l f row e h = ok_cond (Counts due) (eqb (length l) 0) (Ok (came next nothing)) (ok_map f row) e (ok_map_holds (Counts due) f row h)
 
-counts : (due : Due) (labels : List (List ℕ)) (l : List ℕ) → OkAll (Counts due) (takes due labels l)
+counts : (due : Due) (labels : List (List ℕ)) (l : List ℕ) → IfOk (takes due labels l) (Counts due)
 counts FloorNames labels l = names_count FloorNames Floor FirstBunker l refl
 counts FirstBunker labels l = bunker_counts FirstBunker SecondBunker l refl
 counts SecondBunker labels l = bunker_counts SecondBunker FloorEnd l refl
 counts FloorEnd labels l = ok_cond (Counts FloorEnd) (eqb (length l) 0) (Ok (came FileEnd nothing)) (Err NotDue) refl tt
 counts LabelNames labels l = names_count LabelNames Label LabelRows l refl
-counts LabelRows labels l = closed_counts LabelRows SlipNames l (λ w. came LabelRows (names w)) (label_row l) refl (λ w. refl)
+counts LabelRows labels l = closed_counts LabelRows SlipNames l _ (label_row l) refl (λ w. refl)
 counts SlipNames labels l = names_count SlipNames Slip SlipRows l refl
-counts SlipRows labels l = closed_counts SlipRows FileEnd l (λ e. came SlipRows (posts e)) (slip_row labels l) refl (λ e. refl)
+counts SlipRows labels l = closed_counts SlipRows FileEnd l _ (slip_row labels l) refl (λ e. refl)
 counts PlaceNames labels l = names_count PlaceNames table.Place PlaceRows l refl
-counts PlaceRows labels l = closed_counts PlaceRows FileEnd l (λ e. came PlaceRows (posts e)) (place_row labels l) refl (λ e. refl)
+counts PlaceRows labels l = closed_counts PlaceRows FileEnd l _ (place_row labels l) refl (λ e. refl)
 counts FileEnd labels l = tt
 
 two_at_end : (due : Due) → may_end due ≡ true → bunkers_at due ≡ 2
-two_at_end FloorNames e = let z : ◌≡◌ {A = ℕ} 0 1 = cc in absurd (omega arith)
-two_at_end FirstBunker e = let z : ◌≡◌ {A = ℕ} 0 1 = cc in absurd (omega arith)
-two_at_end SecondBunker e = let z : ◌≡◌ {A = ℕ} 0 1 = cc in absurd (omega arith)
-two_at_end FloorEnd e = refl
-two_at_end LabelNames e = refl
-two_at_end LabelRows e = refl
-two_at_end SlipNames e = refl
-two_at_end SlipRows e = refl
-two_at_end PlaceNames e = refl
-two_at_end PlaceRows e = refl
-two_at_end FileEnd e = refl
+two_at_end FloorNames e = cc
+two_at_end FirstBunker e = cc
+two_at_end SecondBunker e = cc
+two_at_end _ e = refl
 
 noted_bunkers : (at : Place) (said : Said) (r : Read) → length (noted at said r).bunkers ≡ one_more said (length r.bunkers)
-noted_bunkers at nothing r = refl
 noted_bunkers at (makes b) r = length_push r.bunkers b
-noted_bunkers at (names word) r = refl
-noted_bunkers at (posts e) r = refl
+noted_bunkers at _ r = refl
 
 -- ---- each call has its place
 
@@ -115,17 +90,14 @@ placed_noted at (posts e) r h = simp length_push (ap (λ n. n + 1) h)
 
 -- ---- both, from line to line
 
-abbrev Two : Read → Type 0
-Two r = r.fault ≡ None → length r.bunkers ≡ 2
-
 refused_sound : (at : Place) (why : Refusal) (r : Read) → Placed r → Sound (refused at why r)
-refused_sound at why r p = record { placed = p; two = λ e. absurd (some_none _ e) }
+refused_sound at why r p = record { placed = p; two = λ e. cc }
 
 end_sound : (b : Bool) (at : Place) (r : Read) → Placed r → (b ≡ true → length r.bunkers ≡ 2) → Sound (cond b r (refused at LineNotDue r))
 end_sound true at r p h = record { placed = p; two = λ e. h refl }
 end_sound false at r p h = refused_sound at LineNotDue r p
 
-line_sound : (due : Due) (at : Place) (r : Read) (next : Came → Read) (res : Result Came LineFault) → Placed r → OkAll (Counts due) res → ((c : Came) → Counts due c → Sound (next c)) → Sound (line_read at r next res)
+line_sound : (due : Due) (at : Place) (r : Read) (next : Came → Read) (res : Result Came LineFault) → Placed r → IfOk res (Counts due) → ((c : Came) → Counts due c → Sound (next c)) → Sound (line_read at r next res)
 line_sound due at r next (Ok c) p h k = k c h
 line_sound due at r next (Err why) p h k = refused_sound at _ r p
 
@@ -145,14 +117,18 @@ unless_sound (Some f) r further e s k = s
 go_sound : (r : Read) (next : Read → Read) → Sound r → (Placed r → length r.bunkers ≡ 2 → Sound (next r)) → Sound (go_on r next)
 go_sound r next s k = unless_sound r.fault r (next r) refl s (k s.placed)
 
-pub lines_sound : (bridge hall : List (List ℕ)) → Sound (read_lines bridge hall)
+lines_sound : (bridge hall : List (List ℕ)) → Sound (read_lines bridge hall)
 unfolding read_lines
 lines_sound bridge hall =
     let floor = read_from Hall FloorNames 1 (take 4 hall) (unread None) in
     let points = go_on floor (read_from Bridge LabelNames 1 bridge) in
     go_sound points (read_from Hall PlaceNames (length (take 4 hall) + 1) (drop 4 hall))
-    (go_sound floor (read_from Bridge LabelNames 1 bridge) (from_sound Hall FloorNames 1 (take 4 hall) (unread None) refl refl) (λ p b. from_sound Bridge LabelNames 1 bridge floor p b))
-    (λ p b. from_sound Hall PlaceNames (length (take 4 hall) + 1) (drop 4 hall) points p b)
+    (go_sound floor (read_from Bridge LabelNames 1 bridge) (from_sound Hall FloorNames 1 (take 4 hall) (unread None) refl refl) (from_sound Bridge LabelNames 1 bridge floor))
+    (from_sound Hall PlaceNames (length (take 4 hall) + 1) (drop 4 hall) points)
 
-pub stopped_sound : (fault : Fault) → Sound (unread (Some fault))
-stopped_sound fault = record { placed = refl; two = λ e. absurd (some_none fault e) }
+if_sound : (r : Result (Unit {0}) Fault) (read : Read) → Sound read → Sound (if_readable r read)
+if_sound (Ok x) read s = s
+if_sound (Err fault) read s = record { placed = refl; two = λ e. cc }
+
+pub reads_sound : (bridge hall : List ℕ) → Sound (reads bridge hall)
+reads_sound bridge hall = if_sound (outcome (Some bridge) (Some hall)) _ (lines_sound (lines_of bridge) (lines_of hall))

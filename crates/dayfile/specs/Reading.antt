@@ -10,8 +10,8 @@ use Rattle.daytables.specs.Tables.{Said, nothing, makes, names, posts, Came, tak
 use Rattle.daytables.specs.declared.due.Due.{Due}
 use Rattle.daytables.specs.declared.due.Due.TheVariants.{FloorNames, LabelNames, PlaceNames}
 use Rattle.daytables.specs.declared.faults.LineFault.{LineFault}
-use Rattle.daytables.specs.declared.rows.Settings.{Settings}
-use Rattle.dayfile.specs.Files.{outcome}
+use Rattle.daytables.specs.declared.rows.FloorLine.{FloorLine}
+use Rattle.dayfile.specs.Files.{place_at, fault_at, outcome}
 use Rattle.dayfile.specs.declared.faults.DayFile.{DayFile}
 use Rattle.dayfile.specs.declared.faults.DayFile.TheVariants.{Bridge, Hall}
 use Rattle.dayfile.specs.declared.faults.Fault.{Fault}
@@ -20,7 +20,7 @@ use Rattle.dayfile.specs.declared.faults.Place.{Place}
 -- what has been read
 pub record Read : Type 0 where
   -- the settings of the bunkers
-  pub bunkers : List Settings
+  pub bunkers : List FloorLine
   -- the labels of the points, by their numbers
   pub labels : List (List ℕ)
   -- what the lines ask of the sheet, and where each of these lines stands
@@ -33,9 +33,6 @@ pub record Read : Type 0 where
 abbrev pub unread : Option Fault → Read
 unread fault = record { bunkers = []; labels = opening ∷ []; calls = []; places = []; fault = fault }
 
-abbrev pub place_at : DayFile → ℕ → Place
-place_at file line = record { file = file; line = line }
-
 -- one more line of the file is read
 abbrev pub noted : Place → Said → Read → Read
 noted at nothing r = r
@@ -46,7 +43,7 @@ noted at (posts e) r = record { bunkers = r.bunkers; labels = r.labels; calls = 
 
 -- reading ends at that line
 abbrev pub refused : Place → Refusal → Read → Read
-refused at why r = record { bunkers = r.bunkers; labels = r.labels; calls = r.calls; places = r.places; fault = Some (record { file = at.file; line = at.line; refusal = why }) }
+refused at why r = record { bunkers = r.bunkers; labels = r.labels; calls = r.calls; places = r.places; fault = Some (fault_at at why) }
 
 -- a line that is read, and what comes after it; or a fault
 abbrev pub line_read : Place → Read → (Came → Read) → Result Came LineFault → Read
@@ -86,9 +83,6 @@ pub record Sound (r : Read) : Type 0 where
   pub two : r.fault ≡ None → length r.bunkers ≡ 2
 
 -- ---- the first fault of a day
-
-abbrev pub fault_at : Place → Refusal → Fault
-fault_at at why = record { file = at.file; line = at.line; refusal = why }
 
 -- the settings of a bunker are refused when it is made, and a call when it is made on the sheet: all of these lines were read before the reading ended
 abbrev pub first_fault : Read → (first second : Option Refusal) → (call : Option (ℕ × Refusal)) → Option Fault

@@ -1,7 +1,7 @@
 // Whether the files of a day are there, short enough and ended.
-ghost use Rattle.std.specs.Prelude.{◌≡◌};
+ghost use Rattle.std.specs.Prelude.{◌≡◌, Some, Ok, Err, MatchResult};
 ghost use Rattle.std.specs.Option.{option_map};
-ghost use Rattle.dayfile.specs.Files.{unreadable, outcome};
+ghost use Rattle.dayfile.specs.Files.{readable, outcome, one_of};
 
 use crate::faults::{DayFile, Fault};
 use model::refusals::Refusal;
@@ -9,43 +9,49 @@ use model::refusals::Refusal;
 // The most bytes that a day file may have.
 pub const MOST_BYTES: usize = 65_536;
 
-// What keeps a file from being read. None stands for a file that is missing.
-fn why_unreadable(bytes: Option<&[u8]>) -> Option<Refusal>
-    ensures { result ≡ unreadable (option_map (λ x. x.now) bytes.entry) }
-{
-    let Some(bytes) = bytes else {
-        return Some(Refusal::FileMissing);
-    };
-    if bytes.len() > MOST_BYTES {
-        return Some(Refusal::FileTooLong);
-    }
-    let Some(last) = bytes.last() else {
-        return Some(Refusal::FileUnended);
-    };
-    if *last == b'\n' {
-        None
-    } else {
-        Some(Refusal::FileUnended)
+// The bytes of the two files of a day.
+#[derive(Clone, Copy)]
+pub struct DayFiles<'a> {
+    pub bridge: &'a [u8],
+    pub hall: &'a [u8],
+}
+
+impl<'a> DayFiles<'a> {
+    // The bytes of one of them.
+    pub(crate) fn of(self, file: DayFile) -> &'a [u8]
+        ensures { result.now ≡ one_of self.entry.bridge.now self.entry.hall.now file }
+    {
+        match file {
+            DayFile::Bridge => self.bridge,
+            DayFile::Hall => self.hall,
+        }
     }
 }
 
-// Whether both files can be read: hall.day is tested before bridge.day.
-pub fn check_files(bridge: Option<&[u8]>, hall: Option<&[u8]>) -> Result<(), Fault>
-    ensures { result ≡ outcome (option_map (λ x. x.now) bridge.entry) (option_map (λ x. x.now) hall.entry) }
+// The bytes of a file that can be read, or what keeps it from that. None stands for a file that is missing.
+fn check_file<'a>(bytes: Option<&'a [u8]>) -> Result<&'a [u8], Refusal>
+    ensures { MatchResult result (λ read. (readable (option_map (λ x. x.now) bytes.entry) ≡ Ok tt) × (option_map (λ x. x.now) bytes.entry ≡ Some read.now)) (λ why. readable (option_map (λ x. x.now) bytes.entry) ≡ Err why) }
 {
-    if let Some(refusal) = why_unreadable(hall) {
-        return Err(Fault {
-            file: DayFile::Hall,
-            line: 0,
-            refusal,
-        });
+    let bytes = bytes.ok_or(Refusal::FileMissing)?;
+    if bytes.len() > MOST_BYTES {
+        return Err(Refusal::FileTooLong);
     }
-    if let Some(refusal) = why_unreadable(bridge) {
-        return Err(Fault {
-            file: DayFile::Bridge,
-            line: 0,
-            refusal,
-        });
+    if bytes.last() != Some(&b'\n') {
+        return Err(Refusal::FileUnended);
     }
-    Ok(())
+    Ok(bytes)
+}
+
+// Both files, or the fault where one of them cannot be read: hall.day is tested before bridge.day.
+pub fn check_files<'a>(
+    bridge: Option<&'a [u8]>,
+    hall: Option<&'a [u8]>,
+) -> Result<DayFiles<'a>, Fault>
+    ensures { let given-bridge = option_map (λ x. x.now) bridge.entry in
+        let given-hall = option_map (λ x. x.now) hall.entry in
+        MatchResult result (λ files. (outcome given-bridge given-hall ≡ Ok tt) × (given-bridge ≡ Some files.bridge.now) × (given-hall ≡ Some files.hall.now)) (λ fault. outcome given-bridge given-hall ≡ Err fault) }
+{
+    let hall = check_file(hall).map_err(|refusal| DayFile::Hall.line(0).fault(refusal))?;
+    let bridge = check_file(bridge).map_err(|refusal| DayFile::Bridge.line(0).fault(refusal))?;
+    Ok(DayFiles { bridge, hall })
 }

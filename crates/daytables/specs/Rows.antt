@@ -13,7 +13,7 @@ use Rattle.runs.specs.declared.calls.Call.TheVariants.{Name, PostDistance, PostU
 use Rattle.daytables.specs.Labels.{point_of}
 use Rattle.daytables.specs.declared.faults.LineFault.{LineFault}
 use Rattle.daytables.specs.declared.faults.LineFault.TheVariants.{BadCount, Field}
-use Rattle.daytables.specs.declared.rows.Settings.{Settings}
+use Rattle.daytables.specs.declared.rows.FloorLine.{FloorLine}
 
 -- what a line asks of the sheet
 pub data Entry : Type 0 where
@@ -69,7 +69,7 @@ place_number (negsuc n) = 64
 -- ---- the tables
 
 -- `floor roof start`
-unfoldable pub floor_row : List ℕ → Result Settings LineFault
+unfoldable pub floor_row : List ℕ → Result FloorLine LineFault
 floor_row line =
     with_fields 3 line
     (and_then (number_at line 0) (λ floor.

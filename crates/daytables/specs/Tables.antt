@@ -11,13 +11,13 @@ use Rattle.daytables.specs.declared.due.Table.{Table}
 use Rattle.daytables.specs.declared.due.Table.TheVariants.{Floor, Label, Slip, Place}
 use Rattle.daytables.specs.declared.faults.LineFault.{LineFault}
 use Rattle.daytables.specs.declared.faults.LineFault.TheVariants.{NotDue}
-use Rattle.daytables.specs.declared.rows.Settings.{Settings}
+use Rattle.daytables.specs.declared.rows.FloorLine.{FloorLine}
 
 -- what a line stands for
 pub data Said : Type 0 where
   -- a line of names, or an empty line
   nothing : Said
-  makes : Settings → Said
+  makes : FloorLine → Said
   names : List ℕ → Said
   posts : Entry → Said
 

@@ -1,10 +1,12 @@
 // Which line is due, and what a line comes to there.
-ghost use Rattle.std.specs.Prelude.{◌≡◌, map, Ok, Err};
-ghost use Rattle.daytables.specs.Rows.{ok_map, floor_row, label_row, slip_row, place_row};
-ghost use Rattle.daytables.specs.Tables.{takes, may_end, came_of, names_of, names_due, filled, closed_or, came, makes, posts, names};
+ghost use Rattle.std.specs.Prelude.{◌≡◌, ◌≢◌, [], map, Err};
+ghost use Rattle.std.specs.Option.{ok_or};
+ghost use Rattle.daytables.specs.Rows.{ok_map, floor_row};
+ghost use Rattle.daytables.specs.Tables.{takes, may_end, said_of, came_of, names_of, names_due, filled, closed_or, came, nothing, makes};
+ghost use Rattle.daytables.specs.declared.due.Due.TheVariants.{FileEnd};
 
 use crate::faults::LineFault;
-use crate::rows::{Settings, read_floor, read_label, read_place, read_slip};
+use crate::rows::{FloorLine, read_floor, read_label, read_place, read_slip};
 use runs::calls::Call;
 
 // A table of the day's files.
@@ -57,7 +59,7 @@ pub enum Row<'a> {
     // a line of names, or an empty line
     Nothing,
     // the settings of a bunker
-    Bunker(Settings),
+    Bunker(FloorLine),
     // the label of a point
     Label(&'a [u8]),
     // a slip or a use
@@ -86,40 +88,40 @@ fn expect_names(line: &[u8], table: Table, next: Due) -> Result<Step, LineFault>
     }
 }
 
+// What a line of a table's values comes to: one that is empty closes the table, where `empty` tells what is due after that; another is
+// what `read` makes of it, and `next` is due after it.
+fn expect_row<'a, R: FnOnce(&'a [u8]) -> Result<Row<'a>, LineFault>>(
+    line: &'a [u8],
+    empty: Option<Due>,
+    next: Due,
+    read: R,
+) -> Result<Step<'a>, LineFault>
+    requires { R.IsAlwaysCallable read }
+    ensures empty { line.now ≡ [] → ok_map came_of result ≡ ok_map (λ d. came d nothing) (ok_or empty LineFault.NotDue) }
+    ensures filled { line.now ≢ [] → (row : _) × R.post read line.entry row × (ok_map came_of result ≡ ok_map (λ x. came next (said_of x)) row) }
+{
+    if line.is_empty() {
+        let next = empty.ok_or(LineFault::NotDue)?;
+        return Ok(Step {
+            row: Row::Nothing,
+            next,
+        });
+    }
+    let row = read(line)?;
+    Ok(Step { row, next })
+}
+
 // A value line of the floor table.
 fn expect_bunker(line: &[u8], next: Due) -> Result<Step, LineFault>
     ensures { ok_map came_of result ≡ filled line.now (ok_map (λ b. came next (makes b)) (floor_row line.now)) }
 {
-    if line.is_empty() {
-        return Err(LineFault::NotDue);
-    }
-    let floor = read_floor(line)?;
-    Ok(Step {
-        row: Row::Bunker(floor),
-        next,
-    })
-}
-
-// A value line of the label table, or the line that closes it.
-fn expect_label(line: &[u8]) -> Result<Step, LineFault>
-    ensures { ok_map came_of result ≡ closed_or Due.SlipNames line.now (ok_map (λ w. came Due.LabelRows (names w)) (label_row line.now)) }
-{
-    if line.is_empty() {
-        return Ok(Step {
-            row: Row::Nothing,
-            next: Due::SlipNames,
-        });
-    }
-    let word = read_label(line)?;
-    Ok(Step {
-        row: Row::Label(word),
-        next: Due::LabelRows,
-    })
+    // no `map(Row::Bunker)`: its row names a lifetime that a floor line does not name, and such a call gets no proof
+    expect_row(line, None, next, |line| Ok(Row::Bunker(read_floor(line)?)))
 }
 
 // The line that closes the floor table.
 fn expect_end(line: &[u8]) -> Result<Step, LineFault>
-    ensures { ok_map came_of result ≡ closed_or Due.FileEnd line.now (Err LineFault.NotDue) }
+    ensures { ok_map came_of result ≡ closed_or FileEnd line.now (Err LineFault.NotDue) }
 {
     if line.is_empty() {
         Ok(Step {
@@ -129,40 +131,6 @@ fn expect_end(line: &[u8]) -> Result<Step, LineFault>
     } else {
         Err(LineFault::NotDue)
     }
-}
-
-// A value line of the slip table, or the line that closes it.
-fn expect_slip<'a>(labels: &[&[u8]], line: &'a [u8]) -> Result<Step<'a>, LineFault>
-    ensures { ok_map came_of result ≡ closed_or Due.FileEnd line.now (ok_map (λ e. came Due.SlipRows (posts e)) (slip_row (map (λ x. x.now) labels.now) line.now)) }
-{
-    if line.is_empty() {
-        return Ok(Step {
-            row: Row::Nothing,
-            next: Due::FileEnd,
-        });
-    }
-    let call = read_slip(labels, line)?;
-    Ok(Step {
-        row: Row::Post(call),
-        next: Due::SlipRows,
-    })
-}
-
-// A value line of the place table, or the line that closes it.
-fn expect_use<'a>(labels: &[&[u8]], line: &'a [u8]) -> Result<Step<'a>, LineFault>
-    ensures { ok_map came_of result ≡ closed_or Due.FileEnd line.now (ok_map (λ e. came Due.PlaceRows (posts e)) (place_row (map (λ x. x.now) labels.now) line.now)) }
-{
-    if line.is_empty() {
-        return Ok(Step {
-            row: Row::Nothing,
-            next: Due::FileEnd,
-        });
-    }
-    let call = read_place(labels, line)?;
-    Ok(Step {
-        row: Row::Post(call),
-        next: Due::PlaceRows,
-    })
 }
 
 impl Due {
@@ -176,11 +144,26 @@ impl Due {
             Due::SecondBunker => expect_bunker(line, Due::FloorEnd),
             Due::FloorEnd => expect_end(line),
             Due::LabelNames => expect_names(line, Table::Label, Due::LabelRows),
-            Due::LabelRows => expect_label(line),
+            Due::LabelRows => expect_row(
+                line,
+                Some(Due::SlipNames),
+                self,
+                |line| read_label(line).map(Row::Label),
+            ),
             Due::SlipNames => expect_names(line, Table::Slip, Due::SlipRows),
-            Due::SlipRows => expect_slip(labels, line),
+            Due::SlipRows => expect_row(
+                line,
+                Some(Due::FileEnd),
+                self,
+                |line| read_slip(labels, line).map(Row::Post),
+            ),
             Due::PlaceNames => expect_names(line, Table::Place, Due::PlaceRows),
-            Due::PlaceRows => expect_use(labels, line),
+            Due::PlaceRows => expect_row(
+                line,
+                Some(Due::FileEnd),
+                self,
+                |line| read_place(labels, line).map(Row::Post),
+            ),
             Due::FileEnd => Err(LineFault::NotDue),
         }
     }
@@ -189,9 +172,9 @@ impl Due {
     pub fn may_end(self) -> bool
         ensures { result ≡ may_end self }
     {
-        match self {
-            Due::FloorEnd | Due::SlipRows | Due::PlaceRows | Due::FileEnd => true,
-            _ => false,
-        }
+        matches!(
+            self,
+            Due::FloorEnd | Due::SlipRows | Due::PlaceRows | Due::FileEnd
+        )
     }
 }

@@ -25,6 +25,14 @@ impl From<FieldFault> for LineFault {
     }
 }
 
+impl From<LineFault> for Refusal {
+    ghost from_gives = { λ e r. r ≡ refusal_of e };
+
+    fn from(fault: LineFault) -> Refusal {
+        fault.refusal()
+    }
+}
+
 impl LineFault {
     // The refusal of the line.
     pub fn refusal(self) -> Refusal

@@ -6,10 +6,5 @@ ghost use Rattle.daytables.specs.Labels.{point_of};
 pub(crate) fn point_of(labels: &[&[u8]], word: &[u8]) -> Option<usize>
     ensures { result ≡ point_of (map (λ x. x.now) labels.now) word.now }
 {
-    for (i, label) in labels.iter().enumerate() {
-        if *label == word {
-            return Some(i);
-        }
-    }
-    None
+    labels.iter().position(|label| *label == word)
 }

@@ -7,12 +7,13 @@ use crate::faults::LineFault;
 use crate::labels::point_of;
 use dayline::fields::{Column, FieldFault, read_field};
 use dayline::parts::count;
-use model::slips::{Distance, Use};
+use model::slips::{Distance, MOST_PLACES, Use};
 use runs::calls::Call;
 
-// The settings of a bunker, as its line has them.
+// The settings of a bunker, as its line has them. Whether a bunker can have them is tested when it is made: a `TryFrom` would have to
+// stand in this crate or in that of the settings, and neither stands on the other.
 #[derive(Clone, Copy)]
-pub struct Settings {
+pub struct FloorLine {
     pub floor: i32,
     pub roof: i32,
     pub start: i32,
@@ -42,32 +43,35 @@ fn check_spaces(line: &[u8], spaces: usize) -> Result<(), LineFault>
     }
 }
 
-// A slip number; a negative number is none, as 0 is none.
+// A slip number; a negative number is none, as 0 is none. The call refuses it, in its own order.
 fn slip_number(n: i32) -> u32
     ensures { result ≡ slip_number n }
 {
-    if n < 0 { 0 } else { n as u32 }
+    u32::try_from(n).unwrap_or(0)
 }
 
-// The number of a place; a negative number is none, as 64 is none.
+// The number of a place; a negative number is none, as the most places are none, since places are counted from 0.
+// The call refuses it, in its own order.
 fn place_number(n: i32) -> usize
     ensures { result ≡ place_number n }
 {
-    if n < 0 { 64 } else { n as usize }
+    usize::try_from(n).unwrap_or(MOST_PLACES)
 }
 
 // A value line of the floor table.
-pub(crate) fn read_floor(line: &[u8]) -> Result<Settings, LineFault>
+#[tactic(auto, unfolding(crate::specs::Rows::floor_row))]
+pub(crate) fn read_floor(line: &[u8]) -> Result<FloorLine, LineFault>
     ensures { result ≡ floor_row line.now }
 {
     check_spaces(line, 2)?;
     let floor = number_at(line, 0)?;
     let roof = number_at(line, 1)?;
     let start = number_at(line, 2)?;
-    Ok(Settings { floor, roof, start })
+    Ok(FloorLine { floor, roof, start })
 }
 
 // A value line of the label table: the word that names a point.
+#[tactic(auto, unfolding(crate::specs::Rows::label_row))]
 pub(crate) fn read_label(line: &[u8]) -> Result<&[u8], LineFault>
     ensures { ok_map (λ x. x.now) result ≡ label_row line.now }
 {
@@ -77,6 +81,7 @@ pub(crate) fn read_label(line: &[u8]) -> Result<&[u8], LineFault>
 }
 
 // A value line of the slip table.
+#[tactic(auto, unfolding(crate::specs::Rows::slip_row))]
 pub(crate) fn read_slip<'a>(labels: &[&[u8]], line: &[u8]) -> Result<Call<'a>, LineFault>
     ensures { ok_map entry_of result ≡ slip_row (map (λ x. x.now) labels.now) line.now }
 {
@@ -90,6 +95,7 @@ pub(crate) fn read_slip<'a>(labels: &[&[u8]], line: &[u8]) -> Result<Call<'a>, L
 }
 
 // A value line of the place table.
+#[tactic(auto, unfolding(crate::specs::Rows::place_row))]
 pub(crate) fn read_place<'a>(labels: &[&[u8]], line: &[u8]) -> Result<Call<'a>, LineFault>
     ensures { ok_map entry_of result ≡ place_row (map (λ x. x.now) labels.now) line.now }
 {

@@ -2,7 +2,8 @@
 use Rattle.std.proofs.Common.{◌≡◌, ℕ, ◌<◌, Bool, true, false, cond, ltb, ◌⊎◌, List, [], ◌∷◌, ◌++◌, map, length, get_or, take, Some, None, Ok, Err, Option, sym, refl, ap, ◌∙◌, subst, inl, inr, arith, length-append, ltb-false}
 use Rattle.std.proofs.lemmas.List.{length-map}
 use Rattle.bunker_laws.specs.declared.settings.Settings.{Settings}
-use Rattle.dayfile.specs.Reading.{Read, Sound, first_fault, fault_at, place_at}
+use Rattle.dayfile.specs.Files.{fault_at, place_at}
+use Rattle.dayfile.specs.Reading.{Read, Sound, first_fault}
 use Rattle.dayfile.specs.declared.faults.DayFile.TheVariants.{Bridge}
 use Rattle.dayfile.specs.declared.faults.Fault.{Fault}
 use Rattle.dayfile.specs.declared.faults.Place.{Place}

@@ -5,7 +5,7 @@ use Rattle.bunker_laws.specs.declared.settings.Settings.{Settings}
 use Rattle.dayfile.specs.Reading.{Read, reads, first_fault}
 use Rattle.dayfile.specs.declared.faults.Fault.{Fault}
 use Rattle.daytables.specs.Rows.{entry_of}
-use Rattle.daytables.specs.declared.rows.Settings.{Settings as FloorLine}
+use Rattle.daytables.specs.declared.rows.FloorLine.{FloorLine}
 use Rattle.model.specs.Uses.{none}
 use Rattle.model.specs.declared.refusals.Refusal.{Refusal}
 use Rattle.model.specs.declared.refusals.Refusal.TheVariants.{BadSettings, OutOfMemory, BufferShort}
@@ -43,11 +43,11 @@ pub record OfLine (b : FloorLine) (s : Settings) : Type 0 where
   pub roof : s.roof ≡ b.roof
   pub start : s.start ≡ b.start
 
--- the settings of the bunker of a line, if there is one, or why none is made
-abbrev pub BunkerOf : Option FloorLine → Result (Option Settings) Refusal → Type 0
-BunkerOf line (Ok None) = line ≡ None
-BunkerOf line (Ok (Some s)) = (b : FloorLine) × (line ≡ Some b) × OfLine b s × (not_made b ≡ None)
-BunkerOf line (Err why) = not_made_of line ≡ Some why
+-- the settings of the bunker of a line; otherwise why none is made of it, and nothing where there is no line
+abbrev pub BunkerOf : Option FloorLine → Result Settings (Option Refusal) → Type 0
+BunkerOf line (Ok s) = (b : FloorLine) × (line ≡ Some b) × OfLine b s × (not_made b ≡ None)
+BunkerOf line (Err None) = line ≡ None
+BunkerOf line (Err (Some why)) = not_made_of line ≡ Some why
 
 -- the bunkers of both value lines
 pub record Made (r : Read) (both : Settings × Settings) : Type 0 where

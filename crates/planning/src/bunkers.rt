@@ -1,14 +1,14 @@
 // The bunkers of a floor table.
 ghost use Rattle.std.specs.Prelude.{◌≡◌, true, is_some, Some, None, MatchResult};
 ghost use Rattle.std.specs.List.{slice_get};
-ghost use Rattle.dayfile.specs.Reading.{first_fault, Sound};
+ghost use Rattle.dayfile.specs.Reading.{first_fault};
 ghost use Rattle.dayfile.specs.Views.{read_of};
 ghost use Rattle.planning.specs.Plans.{OfLine, not_made, BunkerOf, Made, UnmadeFault, FirstFault};
 
 use crate::faults::NotPlanned;
 use bunker_laws::settings::Settings;
-use dayfile::reading::Reading;
-use daytables::rows::Settings as FloorLine;
+use dayfile::reading::{ReadDay, Reading};
+use daytables::rows::FloorLine;
 use model::refusals::Refusal;
 
 // The settings of a line, or why no bunker is made of it.
@@ -18,17 +18,12 @@ fn settings_of(line: FloorLine) -> Result<Settings, Refusal>
     Settings::new(line.floor, line.roof, line.start)
 }
 
-// The settings of the bunker of a line, if there is such a line.
-fn bunker_at(lines: &[FloorLine], i: usize) -> Result<Option<Settings>, Refusal>
+// The settings of the bunker of a line; otherwise why none is made of it, and nothing where there is no such line.
+fn bunker_at(lines: &[FloorLine], i: usize) -> Result<Settings, Option<Refusal>>
     ensures { BunkerOf (slice_get lines.now i) result }
 {
-    if i >= lines.len() {
-        return Ok(None);
-    }
-    match settings_of(lines[i]) {
-        Ok(settings) => Ok(Some(settings)),
-        Err(why) => Err(why),
-    }
+    let line = lines.get(i).ok_or(None)?;
+    settings_of(*line).map_err(Some)
 }
 
 // The first fault, where one of the bunkers is not made for this reason, or its line is missing.
@@ -36,31 +31,17 @@ fn not_made(reading: &Reading<'_>, first: Option<Refusal>, second: Option<Refusa
     requires { is_some (first_fault (read_of reading.now) first second None) ≡ true }
     ensures { FirstFault (read_of reading.now) first second result }
 {
-    match reading.first_fault(first, second, None) {
-        Some(fault) => NotPlanned::Fault(fault),
-        None => unreachable(),
-    }
+    NotPlanned::Fault(reading.first_fault(first, second, None).unwrap())
 }
 
-// The settings of both bunkers.
-pub(crate) fn both_settings(reading: &Reading<'_>) -> Result<(Settings, Settings), NotPlanned>
-    requires { Sound (read_of reading.now) }
-    ensures { MatchResult result (Made (read_of reading.now)) (UnmadeFault (read_of reading.now)) }
+// The settings of both bunkers, or the first fault, where one of them is not made.
+pub(crate) fn both_settings(day: &ReadDay<'_>) -> Result<(Settings, Settings), NotPlanned>
+    ensures { MatchResult result (Made (read_of day.now.reading)) (UnmadeFault (read_of day.now.reading)) }
 {
+    let reading = &day.reading;
     let lines = reading.bunkers.as_slice();
-    let first = match bunker_at(lines, 0) {
-        Ok(settings) => settings,
-        Err(why) => return Err(not_made(reading, Some(why), None)),
-    };
-    let second = match bunker_at(lines, 1) {
-        Ok(settings) => settings,
-        Err(why) => return Err(not_made(reading, None, Some(why))),
-    };
-    let Some(first) = first else {
-        return Err(not_made(reading, None, None));
-    };
-    let Some(second) = second else {
-        return Err(not_made(reading, None, None));
-    };
-    Ok((first, second))
+    match (bunker_at(lines, 0), bunker_at(lines, 1)) {
+        (Ok(first), Ok(second)) => Ok((first, second)),
+        (first, second) => Err(not_made(reading, first.err().flatten(), second.err().flatten())),
+    }
 }

@@ -1,9 +1,11 @@
 // Why there is no answer for a day.
 ghost use Rattle.std.specs.Prelude.{◌≡◌};
+ghost use Rattle.model.specs.declared.refusals.Refusal.TheVariants.{OutOfMemory};
 ghost use Rattle.planning.specs.declared.faults.NotPlanned.TheVariants.{Refused as refusedBy};
 
 use dayfile::faults::Fault;
 use model::refusals::Refusal;
+use std::alloc::AllocError;
 
 // Why a day was not planned.
 #[derive(Clone, Copy)]
@@ -19,5 +21,13 @@ impl From<Refusal> for NotPlanned {
 
     fn from(refusal: Refusal) -> NotPlanned {
         NotPlanned::Refused(refusal)
+    }
+}
+
+impl From<AllocError> for NotPlanned {
+    ghost from_gives = { λ _ r. r ≡ refusedBy OutOfMemory };
+
+    fn from(error: AllocError) -> NotPlanned {
+        NotPlanned::Refused(error.into())
     }
 }

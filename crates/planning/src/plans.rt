@@ -1,6 +1,5 @@
 // From the bytes of two files to the bytes of the answer.
 ghost use Rattle.std.specs.Prelude.{◌≡◌, [], ◌∷◌, ◌++◌, MatchResult};
-ghost use Rattle.dayfile.specs.Reading.{Sound};
 ghost use Rattle.dayfile.specs.Views.{read_of};
 ghost use Rattle.model.specs.declared.refusals.Refusal.TheVariants.{OutOfMemory};
 ghost use Rattle.runs.specs.declared.calls.Call.TheVariants.{Tighten};
@@ -9,7 +8,8 @@ ghost use Rattle.planning.specs.Plans.{PlayedFor, PlansFor, Plans};
 use crate::bunkers::both_settings;
 use crate::faults::NotPlanned;
 use bunker_laws::settings::Settings;
-use dayfile::reading::{Reading, read_day};
+use dayfile::files::DayFiles;
+use dayfile::reading::{ReadDay, Reading, read_day};
 use model::refusals::Refusal;
 use output::writing::write_day;
 use rules::limit::Limit;
@@ -17,10 +17,7 @@ use rules::rule::Rule;
 use runs::calls::Call;
 use sheet::running::{Played, run};
 use std::alloc::Global;
-use yard::yards::{Yard, build_yard};
-
-// The minutes of a day.
-const HORIZON: u32 = 1_440;
+use yard::yards::{HORIZON, Yard, build_yard};
 
 // Plays the calls on a sheet over two bunkers of these settings and a weighbridge. Only want of memory refuses it.
 fn play(
@@ -32,10 +29,8 @@ fn play(
     ensures { MatchResult result (PlayedFor first second calls.now) (λ e. e ≡ OutOfMemory) }
 {
     let yard = build_yard(heap, first, second)?;
-    match run(heap, yard, HORIZON, calls) {
-        Ok(played) => Ok(played),
-        Err(why) => Err(why.refusal),
-    }
+    let played = run(heap, yard, HORIZON, calls)?;
+    Ok(played)
 }
 
 // Plays the calls of a reading, and then tightens the sheet. Only want of memory refuses it.
@@ -49,23 +44,21 @@ fn play_reading(
     ensures places { reading.new.places ≡ reading.old.places }
     ensures fault { reading.new.fault ≡ reading.old.fault }
 {
-    match reading.calls.push(Call::Tighten) {
-        Ok(()) => play(heap, first, second, reading.calls.as_slice()),
-        Err(_) => Err(Refusal::OutOfMemory),
-    }
+    // a push fails with an error of its own, from which no `From` leads to a refusal
+    reading
+        .calls
+        .push(Call::Tighten)
+        .map_err(|_| Refusal::OutOfMemory)?;
+    play(heap, first, second, reading.calls.as_slice())
 }
 
 // Plans a day that was read. The first fault is that of a bunker that is not made, of a call that is refused, or the one at which
 // reading ended.
-fn plan_reading(
-    heap: Global,
-    mut reading: Reading<'_>,
-    buffer: &mut [u8],
-) -> Result<usize, NotPlanned>
-    requires { Sound (read_of reading) }
-    ensures { PlansFor (read_of reading.entry) buffer.old buffer.new result }
+fn plan_reading(heap: Global, day: ReadDay<'_>, buffer: &mut [u8]) -> Result<usize, NotPlanned>
+    ensures { PlansFor (read_of day.entry.reading) buffer.old buffer.new result }
 {
-    let (first, second) = both_settings(&reading)?;
+    let (first, second) = both_settings(&day)?;
+    let mut reading = day.reading;
     let played = play_reading(heap, &mut reading, first, second)?;
     if let Some(fault) = reading.first_fault(None, None, played.told.refused) {
         return Err(NotPlanned::Fault(fault));
@@ -78,14 +71,11 @@ fn plan_reading(
 // as it was, and the answer is the first fault, or that there is no memory or that the buffer is too short.
 pub fn plan_day<'a>(
     heap: Global,
-    bridge: &'a [u8],
-    hall: &'a [u8],
+    files: DayFiles<'a>,
     buffer: &mut [u8],
 ) -> Result<usize, NotPlanned>
-    ensures { Plans bridge.now hall.now buffer.old buffer.new result }
+    ensures { Plans files.entry.bridge.now files.entry.hall.now buffer.old buffer.new result }
 {
-    match read_day(heap, bridge, hall) {
-        Ok(reading) => plan_reading(heap, reading, buffer),
-        Err(_) => Err(NotPlanned::Refused(Refusal::OutOfMemory)),
-    }
+    let day = read_day(heap, files)?;
+    plan_reading(heap, day, buffer)
 }

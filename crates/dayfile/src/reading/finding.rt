@@ -18,30 +18,13 @@ impl Reading<'_> {
     ) -> Option<Fault>
         ensures { result ≡ first_fault (read_of self.now) first second call }
     {
-        if let Some(refusal) = first {
-            return Some(Fault {
-                file: DayFile::Hall,
-                line: 2,
-                refusal,
-            });
-        }
-        if let Some(refusal) = second {
-            return Some(Fault {
-                file: DayFile::Hall,
-                line: 3,
-                refusal,
-            });
-        }
-        let Some((i, refusal)) = call else {
-            return self.fault;
+        // a `match`: of a chain of `map` and `or` the check finds no proof
+        let found = match (first, second, call) {
+            (Some(refusal), _, _) => Some(DayFile::Hall.line(2).fault(refusal)),
+            (None, Some(refusal), _) => Some(DayFile::Hall.line(3).fault(refusal)),
+            (None, None, Some((i, refusal))) => self.places.get(i).map(|at| at.fault(refusal)),
+            (None, None, None) => None,
         };
-        let Some(at) = self.places.get(i) else {
-            return self.fault;
-        };
-        Some(Fault {
-            file: at.file,
-            line: at.line,
-            refusal,
-        })
+        found.or(self.fault)
     }
 }

@@ -1,13 +1,14 @@
 // Lines, one after another.
-ghost use Rattle.std.specs.Prelude.{◌≡◌, ◌+◌, ◌^◌, ◌<◌, map, length, IfOk, Some, OnOk};
+ghost use Rattle.std.specs.Prelude.{◌≡◌, ◌+◌, ◌^◌, ◌<◌, map, length, IfOk, OnOk};
 ghost use Rattle.daytables.specs.Rows.{entry_of};
 ghost use Rattle.daytables.specs.Tables.{said_of, posts};
-ghost use Rattle.dayfile.specs.Reading.{Sound, unread, noted, refused, read_from, go_on};
+ghost use Rattle.dayfile.specs.Reading.{unread, noted, refused, read_from, go_on};
 ghost use Rattle.dayfile.specs.Views.{read_of};
 
 use super::Reading;
 use crate::faults::{DayFile, Fault, Place};
 use daytables::due::{Due, Row};
+use model::labels::OPENING;
 use model::refusals::Refusal;
 use runs::calls::Call;
 use std::alloc::{AllocError, Global};
@@ -18,7 +19,7 @@ impl<'a> Reading<'a> {
         ensures { IfOk result (λ x. read_of x ≡ unread fault) }
     {
         let mut labels: Vec<&'a [u8]> = Vec::new(heap);
-        labels.push(b"opening")?;
+        labels.push(OPENING)?;
         Ok(Reading {
             bunkers: Vec::new(heap),
             labels,
@@ -26,15 +27,6 @@ impl<'a> Reading<'a> {
             places: Vec::new(heap),
             fault,
         })
-    }
-
-    // The files cannot be read.
-    pub(super) fn stopped(heap: Global, fault: Fault) -> Result<Reading<'a>, AllocError>
-        ensures value { IfOk result (λ x. read_of x ≡ unread (Some fault)) }
-        ensures sound { IfOk result (λ x. Sound (read_of x)) }
-    {
-        let reading = Reading::new(heap, Some(fault))?;
-        Ok(reading)
     }
 
     // A line that posts a slip or a use.
@@ -52,14 +44,13 @@ impl<'a> Reading<'a> {
     {
         match row {
             Row::Nothing => Ok(()),
-            Row::Bunker(settings) => {
-                self.bunkers.push(settings)?;
+            Row::Bunker(line) => {
+                self.bunkers.push(line)?;
                 Ok(())
             }
             Row::Label(word) => {
                 self.labels.push(word)?;
-                self.post(at, Call::Name(word))?;
-                Ok(())
+                self.post(at, Call::Name(word))
             }
             Row::Post(call) => self.post(at, call),
         }
@@ -69,53 +60,16 @@ impl<'a> Reading<'a> {
     fn refuse(&mut self, at: Place, refusal: Refusal)
         ensures { read_of self.new ≡ refused at refusal (read_of self.old) }
     {
-        self.fault = Some(Fault {
-            file: at.file,
-            line: at.line,
-            refusal,
-        });
+        self.fault = Some(at.fault(refusal));
     }
 
-    // The lines of a file from line `first` on, where that is due.
-    fn read_lines(
+    // The lines of a file from line `first` on, where that is due; nothing more after a fault.
+    #[tactic(auto, using(crate::proofs::LineSteps::lines_end, crate::proofs::LineSteps::lines_short))]
+    pub(super) fn read_lines(
         &mut self,
         file: DayFile,
         first: usize,
         mut due: Due,
-        lines: &[&'a [u8]],
-    ) -> Result<(), AllocError>
-        requires { first + length lines.now < 2 ^ 64 }
-        ensures { OnOk result (read_of self.new ≡ read_from file due first (map (λ x. x.now) lines.now) (read_of self.old)) }
-    {
-        for (i, line) in lines.iter().enumerate() {
-            let at = Place {
-                file,
-                line: first + i,
-            };
-            match due.read(self.labels.as_slice(), line) {
-                Ok(step) => {
-                    self.note(at, step.row)?;
-                    due = step.next;
-                }
-                Err(why) => {
-                    self.refuse(at, why.refusal());
-                    return Ok(());
-                }
-            }
-        }
-        if !due.may_end() {
-            let line = first + lines.len();
-            self.refuse(Place { file, line }, Refusal::LineNotDue);
-        }
-        Ok(())
-    }
-
-    // The same, unless there was a fault before.
-    pub(super) fn go_on(
-        &mut self,
-        file: DayFile,
-        first: usize,
-        due: Due,
         lines: &[&'a [u8]],
     ) -> Result<(), AllocError>
         requires { first + length lines.now < 2 ^ 64 }
@@ -124,7 +78,23 @@ impl<'a> Reading<'a> {
         if self.fault.is_some() {
             return Ok(());
         }
-        self.read_lines(file, first, due, lines)?;
+        for (i, line) in lines.iter().enumerate() {
+            let at = file.line(first + i);
+            match due.read(self.labels.as_slice(), line) {
+                Ok(step) => {
+                    self.note(at, step.row)?;
+                    due = step.next;
+                }
+                // no `?`: the fault is part of what has been read, and ends the reading without an error
+                Err(why) => {
+                    self.refuse(at, why.into());
+                    return Ok(());
+                }
+            }
+        }
+        if !due.may_end() {
+            self.refuse(file.line(first + lines.len()), Refusal::LineNotDue);
+        }
         Ok(())
     }
 }

@@ -1,12 +1,14 @@
-use Rattle.std.proofs.Common.{map, sym, subst}
-use Rattle.dayfile.specs.Reading.{Sound}
+use Rattle.std.proofs.Common.{map, ap, ◌∙◌, arith}
+use Rattle.dayfile.specs.Reading.{read_lines}
 use Rattle.dayfile.specs.Views.{read_of}
 use Rattle.dayfile.proofs.Orders.{in_order}
-use Rattle.dayfile.proofs.Sounds.{lines_sound}
 use Rattle.dayfile.proofs.reading.days.read_files.Goals as goal
 
 pub returns : goal.returns
 returns c =
-    let value = in_order c.args.hall.now c.min-closed.result c.min-closed.ensures c.args.bridge.now (read_of c.in_ok-reading.reading) (read_of c.go_on.new.self) (read_of c.go_on-2.new.self) (read_of c.go_on-3.new.self)
-    c.in_ok-reading.ensures c.in_ok-go_on.ensures c.in_ok-go_on-2.ensures c.in_ok-go_on-3.ensures in
-    record { value = value; sound = subst Sound (sym value) (lines_sound (map (λ x. x.now) c.args.bridge.now) (map (λ x. x.now) c.args.hall.now)) }
+    let bridge = ap (map (λ x. x.now)) c.as_slice-2.ensures.value ∙ c.in_ok-bridge.ensures in
+    let hall = ap (map (λ x. x.now)) c.as_slice.ensures.value ∙ c.in_ok-hall.ensures in
+    in_order c.as_slice.result.now c.split_at.result.0.now c.split_at.result.1.now c.min.result (omega arith) c.split_at.ensures.front c.split_at.ensures.back c.as_slice-2.result.now
+    (read_of c.in_ok-reading.reading) (read_of c.read_lines.new.self) (read_of c.read_lines-2.new.self) (read_of c.read_lines-3.new.self)
+    c.in_ok-reading.ensures c.in_ok-read_lines.ensures c.in_ok-read_lines-2.ensures c.in_ok-read_lines-3.ensures
+    ∙ (ap (λ b. read_lines b (map (λ x. x.now) c.as_slice.result.now)) bridge ∙ ap (read_lines _) hall)
