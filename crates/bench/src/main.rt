@@ -4,55 +4,40 @@
 
 use anyhow::anyhow;
 use bunker_laws::settings::Settings;
+use dayfile::files::DayFiles;
 use dayfile::reading::read_day;
-use daytables::rows::Settings as FloorLine;
-use model::verdicts::Verdict;
+use dayfolder::folders::DayFolder;
+use dayfolder::printing::MOST_OUTPUT;
+use daytables::rows::FloorLine;
 use planning::plans::plan_day;
 use rules::limit::Limit;
 use rules::rule::Rule;
 use runs::answers::Answer;
 use sheet::sheets::Sheet;
-use std::path::Path;
+use std::env;
 use std::time::Instant;
-use std::{env, fs};
-use yard::yards::{Yard, build_yard};
+use yard::yards::{HORIZON, Yard, build_yard};
 
-fn word_of(verdict: Verdict) -> &'static str {
-    match verdict {
-        Verdict::NoPlan => "noplan",
-        Verdict::Open => "open",
-        Verdict::AnyPlan => "any",
-    }
+fn settings_of(line: FloorLine) -> anyhow::Result<Settings> {
+    Settings::new(line.floor, line.roof, line.start).map_err(|_| anyhow!("bad settings"))
 }
 
 // A sheet over the bunkers of two floor lines and a weighbridge.
 fn ruled(rt: &HostRuntime, first: FloorLine, second: FloorLine) -> anyhow::Result<Sheet<Yard>> {
-    let Ok(first) = Settings::new(first.floor, first.roof, first.start) else {
-        return Err(anyhow!("bad settings"));
-    };
-    let Ok(second) = Settings::new(second.floor, second.roof, second.start) else {
-        return Err(anyhow!("bad settings"));
-    };
-    let Ok(yard) = build_yard(rt.alloc(), first, second) else {
-        return Err(anyhow!("no memory"));
-    };
-    match Sheet::rule(rt.alloc(), yard, 1_440) {
-        Ok(sheet) => Ok(sheet),
-        Err(_) => Err(anyhow!("no memory")),
-    }
+    let first = settings_of(first)?;
+    let second = settings_of(second)?;
+    let yard = build_yard(rt.alloc(), first, second).map_err(|_| anyhow!("no memory"))?;
+    Sheet::rule(rt.alloc(), yard, HORIZON).map_err(|_| anyhow!("no memory"))
 }
 
 // A sheet on which the day of two files stands.
-fn posted<'a>(rt: &HostRuntime, bridge: &'a [u8], hall: &'a [u8]) -> anyhow::Result<Sheet<Yard>> {
-    let reading = read_day(rt.alloc(), bridge, hall)?;
-    let lines = reading.bunkers.as_slice();
-    if lines.len() < 2 {
+fn posted(rt: &HostRuntime, files: DayFiles<'_>) -> anyhow::Result<Sheet<Yard>> {
+    let reading = read_day(rt.alloc(), files)?.reading;
+    let [first, second, ..] = reading.bunkers.as_slice() else {
         return Err(anyhow!("no bunkers"));
-    }
-    let mut sheet = ruled(rt, lines[0], lines[1])?;
-    for call in reading.calls.as_slice() {
-        let _ = sheet.apply(*call);
-    }
+    };
+    let mut sheet = ruled(rt, *first, *second)?;
+    let _ = sheet.play(reading.calls.as_slice());
     Ok(sheet)
 }
 
@@ -72,36 +57,30 @@ fn time_tightening(
 }
 
 // Plans a day, and forgets the answer.
-fn plan_once<'a>(rt: &HostRuntime, bridge: &'a [u8], hall: &'a [u8]) {
-    let mut output = [0u8; 2_048];
-    let _ = plan_day(rt.alloc(), bridge, hall, &mut output);
+fn plan_once(rt: &HostRuntime, files: DayFiles<'_>) {
+    let mut output = [0u8; MOST_OUTPUT];
+    let _ = plan_day(rt.alloc(), files, &mut output);
 }
 
 // The nanoseconds from the bytes of two files to the bytes of the answer.
-fn time_planning<'a>(
-    rt: &HostRuntime,
-    bridge: &'a [u8],
-    hall: &'a [u8],
-    rounds: u32,
-) -> anyhow::Result<u128> {
+fn time_planning(rt: &HostRuntime, files: DayFiles<'_>, rounds: u32) -> anyhow::Result<u128> {
     let start = Instant::now(rt)?;
     for _ in 0..rounds {
-        plan_once(rt, bridge, hall);
+        plan_once(rt, files);
     }
     let took = start.elapsed(rt)?;
     Ok(took.as_nanos() / u128::from(rounds.max(1)))
 }
 
 fn time_day(rt: &HostRuntime, folder: &str, rounds: u32) -> anyhow::Result<()> {
-    let heap = rt.alloc();
-    let bridge = fs::read(rt, Path::new(folder).join(heap, "bridge.day")?.as_path())?;
-    let hall = fs::read(rt, Path::new(folder).join(heap, "hall.day")?.as_path())?;
-    let mut sheet = posted(rt, bridge.as_slice(), hall.as_slice())?;
+    let day = DayFolder::read(rt, folder);
+    let files = day.files().map_err(|_| anyhow!("a file cannot be read"))?;
+    let mut sheet = posted(rt, files)?;
     let (answer, tightening) = time_tightening(rt, &mut sheet, rounds)?;
-    let planning = time_planning(rt, bridge.as_slice(), hall.as_slice(), rounds)?;
-    let word = word_of(answer.verdict);
+    let planning = time_planning(rt, files, rounds)?;
+    let verdict = answer.verdict;
     let count = answer.count;
-    println!(rt; "{folder} {word} {count} {tightening} {planning}")?;
+    println!(rt; "{folder} {verdict} {count} {tightening} {planning}")?;
     Ok(())
 }
 

@@ -1,4 +1,4 @@
-// What is wrong, in words for people.
+// What is wrong, in words for people. They stand here and not beside the enum, since they name the places of this yard.
 use model::refusals::Refusal;
 
 // Why a file, a line or the call that it stands for was refused.
@@ -11,12 +11,6 @@ pub(crate) fn reason(refusal: Refusal) -> &'static str {
         Refusal::BadFieldCount => "the line has too few or too many fields",
         Refusal::BadNumber => { "a number is malformed, or outside -100,000,000 to 100,000,000" }
         Refusal::UnknownLabel => "no point has that label",
-        _ => reason_of_call(refusal),
-    }
-}
-
-fn reason_of_call(refusal: Refusal) -> &'static str {
-    match refusal {
         Refusal::BadSettings => "a bunker needs 0 <= floor <= start <= roof <= 100,000,000",
         Refusal::BadLabel => "a label has 1 to 8 bytes of a-z and 0-9",
         Refusal::LabelTaken => "the label is in use",
@@ -32,6 +26,15 @@ fn reason_of_call(refusal: Refusal) -> &'static str {
         Refusal::SlipsFull => "256 distance slips stand already",
         Refusal::UsesFull(_) =>
             "the place's most uses stand already: 32 in a bunker, 16 on the weighbridge",
-        _ => "the line is refused",
+        // no line of a day is refused by one of these
+        Refusal::BadHorizon
+        | Refusal::UsesStand
+        | Refusal::NoPoint
+        | Refusal::NotStanding
+        | Refusal::NotTightened
+        | Refusal::NoPlan
+        | Refusal::BadMinute
+        | Refusal::BufferShort
+        | Refusal::OutOfMemory => "the line is refused",
     }
 }

@@ -8,16 +8,12 @@ use rules::limit::Limit;
 use rules::rule::Rule;
 use std::test::Fail;
 
-fn use_of(first: usize, last: usize, kilos: i32) -> Use {
-    Use { first, last, kilos }
-}
-
 // A delivery of 400 and one of -400 from an empty bunker: the first has to come by the second.
 #[test]
 fn floor_orders_two_deliveries(rt: HostRuntime) -> Result<(), Fail> {
     let mut bunker = Bunker::new(rt.alloc(), 0, 1_000, 0)?;
-    bunker.take(0, 1, use_of(1, 1, 400))?;
-    bunker.take(0, 2, use_of(2, 2, -400))?;
+    bunker.take(0, 1, Use::new(1, 1, 400))?;
+    bunker.take(0, 2, Use::new(2, 2, -400))?;
     let mut table = open_table(3)?;
     window(&mut table, 1, 0, 50);
     window(&mut table, 2, 20, 60);
@@ -38,8 +34,8 @@ fn floor_orders_two_deliveries(rt: HostRuntime) -> Result<(), Fail> {
 #[test]
 fn roof_orders_two_deliveries(rt: HostRuntime) -> Result<(), Fail> {
     let mut bunker = Bunker::new(rt.alloc(), 0, 500, 300)?;
-    bunker.take(0, 1, use_of(1, 1, 400))?;
-    bunker.take(0, 2, use_of(2, 2, -250))?;
+    bunker.take(0, 1, Use::new(1, 1, 400))?;
+    bunker.take(0, 2, Use::new(2, 2, -250))?;
     let table = closed(&open_table(3)?)?;
     let mut bounds = no_bounds(&table)?;
     assert_eq!(rt;
@@ -55,7 +51,7 @@ fn roof_orders_two_deliveries(rt: HostRuntime) -> Result<(), Fail> {
 #[test]
 fn too_little_is_refused(rt: HostRuntime) -> Result<(), Fail> {
     let mut bunker = Bunker::new(rt.alloc(), 0, 10, 5)?;
-    bunker.take(0, 7, use_of(1, 1, -8))?;
+    bunker.take(0, 7, Use::new(1, 1, -8))?;
     let table = closed(&open_table(2)?)?;
     let mut bounds = no_bounds(&table)?;
     assert_eq!(rt;
@@ -72,7 +68,7 @@ fn too_little_is_refused(rt: HostRuntime) -> Result<(), Fail> {
 #[test]
 fn too_much_is_refused(rt: HostRuntime) -> Result<(), Fail> {
     let mut bunker = Bunker::new(rt.alloc(), 0, 10, 5)?;
-    bunker.take(0, 7, use_of(1, 1, 8))?;
+    bunker.take(0, 7, Use::new(1, 1, 8))?;
     let table = closed(&open_table(2)?)?;
     assert_eq!(rt; bunker.levels(&table, 0, Moment::Minute(0)), Some((13, 5)));
     assert!(rt; bunker.refuses(&table));
@@ -83,8 +79,8 @@ fn too_much_is_refused(rt: HostRuntime) -> Result<(), Fail> {
 #[test]
 fn loan_waits_for_another(rt: HostRuntime) -> Result<(), Fail> {
     let mut bunker = Bunker::new(rt.alloc(), 0, 1, 1)?;
-    bunker.take(0, 1, use_of(0, 1, 1))?;
-    bunker.take(0, 2, use_of(2, 3, 1))?;
+    bunker.take(0, 1, Use::new(0, 1, 1))?;
+    bunker.take(0, 2, Use::new(2, 3, 1))?;
     let mut table = open_table(4)?;
     window(&mut table, 1, 10, 10);
     window(&mut table, 2, 5, 30);
@@ -103,9 +99,9 @@ fn loan_waits_for_another(rt: HostRuntime) -> Result<(), Fail> {
 #[test]
 fn loan_has_to_be_out(rt: HostRuntime) -> Result<(), Fail> {
     let mut bunker = Bunker::new(rt.alloc(), 0, 10, 10)?;
-    bunker.take(0, 1, use_of(1, 1, 3))?;
-    bunker.take(0, 2, use_of(2, 2, -3))?;
-    bunker.take(0, 3, use_of(3, 4, 3))?;
+    bunker.take(0, 1, Use::new(1, 1, 3))?;
+    bunker.take(0, 2, Use::new(2, 2, -3))?;
+    bunker.take(0, 3, Use::new(3, 4, 3))?;
     let mut table = open_table(5)?;
     window(&mut table, 1, 20, 20);
     window(&mut table, 2, 40, 40);
@@ -124,8 +120,8 @@ fn loan_has_to_be_out(rt: HostRuntime) -> Result<(), Fail> {
 #[test]
 fn loan_ends_in_time(rt: HostRuntime) -> Result<(), Fail> {
     let mut bunker = Bunker::new(rt.alloc(), 0, 20, 10)?;
-    bunker.take(0, 1, use_of(1, 1, -10))?;
-    bunker.take(0, 2, use_of(0, 2, 5))?;
+    bunker.take(0, 1, Use::new(1, 1, -10))?;
+    bunker.take(0, 2, Use::new(0, 2, 5))?;
     let mut table = open_table(3)?;
     window(&mut table, 1, 30, 30);
     window(&mut table, 2, 0, 60);
@@ -140,7 +136,7 @@ fn loan_ends_in_time(rt: HostRuntime) -> Result<(), Fail> {
 #[test]
 fn reversed_loan_is_refused(rt: HostRuntime) -> Result<(), Fail> {
     let mut bunker = Bunker::new(rt.alloc(), 0, 20, 10)?;
-    bunker.take(0, 1, use_of(1, 2, 5))?;
+    bunker.take(0, 1, Use::new(1, 2, 5))?;
     let mut table = open_table(3)?;
     window(&mut table, 1, 50, 60);
     window(&mut table, 2, 20, 40);
@@ -153,8 +149,8 @@ fn reversed_loan_is_refused(rt: HostRuntime) -> Result<(), Fail> {
 #[test]
 fn settled_is_vouched_for(rt: HostRuntime) -> Result<(), Fail> {
     let mut bunker = Bunker::new(rt.alloc(), 0, 1_000, 0)?;
-    bunker.take(0, 1, use_of(1, 1, 400))?;
-    bunker.take(0, 2, use_of(2, 2, -400))?;
+    bunker.take(0, 1, Use::new(1, 1, 400))?;
+    bunker.take(0, 2, Use::new(2, 2, -400))?;
     let mut table = open_table(3)?;
     window(&mut table, 1, 20, 20);
     window(&mut table, 2, 20, 20);
@@ -171,30 +167,33 @@ fn uses_come_and_go(rt: HostRuntime) -> Result<(), Fail> {
     assert!(rt; Bunker::new(rt.alloc(), 5, 10, 4).is_err());
     let mut bunker = Bunker::new(rt.alloc(), 0, 10, 5)?;
     assert!(rt; !bunker.any_use());
-    assert_eq!(rt; bunker.take(1, 0, use_of(64, 0, 0)), Err(Refusal::NoPlace));
-    assert_eq!(rt; bunker.take(0, 0, use_of(1, 1, 5)), Err(Refusal::BadUse));
-    assert_eq!(rt; bunker.take(0, 1, use_of(64, 1, 5)), Err(Refusal::BadUse));
-    assert_eq!(rt; bunker.take(0, 1, use_of(1, 1, 0)), Err(Refusal::BadUse));
     assert_eq!(rt;
-        bunker.take(0, 1, use_of(1, 1, 1_000_001)),
+        bunker.take(1, 0, Use::new(64, 0, 0)),
+        Err(Refusal::NoPlace)
+    );
+    assert_eq!(rt; bunker.take(0, 0, Use::new(1, 1, 5)), Err(Refusal::BadUse));
+    assert_eq!(rt; bunker.take(0, 1, Use::new(64, 1, 5)), Err(Refusal::BadUse));
+    assert_eq!(rt; bunker.take(0, 1, Use::new(1, 1, 0)), Err(Refusal::BadUse));
+    assert_eq!(rt;
+        bunker.take(0, 1, Use::new(1, 1, 1_000_001)),
         Err(Refusal::BadUse)
     );
-    assert_eq!(rt; bunker.take(0, 1, use_of(1, 1, 5)), Ok(()));
+    assert_eq!(rt; bunker.take(0, 1, Use::new(1, 1, 5)), Ok(()));
     assert_eq!(rt;
-        bunker.take(0, 1, use_of(2, 2, 5)),
+        bunker.take(0, 1, Use::new(2, 2, 5)),
         Err(Refusal::NumberStands)
     );
     for k in 2..33 {
-        assert_eq!(rt; bunker.take(0, k, use_of(1, 1, 5)), Ok(()));
+        assert_eq!(rt; bunker.take(0, k, Use::new(1, 1, 5)), Ok(()));
     }
     assert_eq!(rt;
-        bunker.take(0, 40, use_of(1, 1, 5)),
+        bunker.take(0, 40, Use::new(1, 1, 5)),
         Err(Refusal::UsesFull(32))
     );
     assert_eq!(rt; bunker.give_up(1, 1), Err(Refusal::NoPlace));
     assert_eq!(rt; bunker.give_up(0, 40), Err(Refusal::NotStanding));
     assert_eq!(rt; bunker.give_up(0, 1), Ok(()));
-    assert_eq!(rt; bunker.take(0, 1, use_of(2, 2, 5)), Ok(()));
+    assert_eq!(rt; bunker.take(0, 1, Use::new(2, 2, 5)), Ok(()));
     assert!(rt; bunker.any_use());
     Ok(())
 }

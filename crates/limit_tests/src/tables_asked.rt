@@ -11,24 +11,15 @@ pub(crate) fn window(table: &mut Table, p: usize, earliest: i32, latest: i32) {
 
 // A table of so many points, open but for the horizon.
 pub(crate) fn open_table(points: usize) -> Result<Table, Fail> {
-    match Table::new(points, 1_440) {
-        Some(table) => Ok(table),
-        None => Err(Fail::new("no such table")),
-    }
+    Table::new(points, 1_440).ok_or_else(|| Fail::new("no such table"))
 }
 
 // The greatest sound table below.
 pub(crate) fn closed(table: &Table) -> Result<Table, Fail> {
-    match table.closed() {
-        Some(sound) => Ok(sound),
-        None => Err(Fail::new("no sound table")),
-    }
+    table.closed().ok_or_else(|| Fail::new("no sound table"))
 }
 
 // No bounds yet, between as many points.
 pub(crate) fn no_bounds(table: &Table) -> Result<Bounds, Fail> {
-    match Bounds::new(table.points()) {
-        Some(bounds) => Ok(bounds),
-        None => Err(Fail::new("too many points")),
-    }
+    Bounds::new(table.points()).ok_or_else(|| Fail::new("too many points"))
 }

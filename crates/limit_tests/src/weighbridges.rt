@@ -11,11 +11,7 @@ use std::test::Fail;
 use weighbridge::weighbridges::Weighbridge;
 
 fn crossing(first: usize, last: usize) -> Use {
-    Use {
-        first,
-        last,
-        kilos: 0,
-    }
+    Use::new(first, last, 0)
 }
 
 // One crossing from 0 to 10, one from b in 5-30 for five minutes: the second begins when the first has ended.

@@ -1,43 +1,29 @@
 // The trailer's day: unhook, tip 400 kilos then, and weigh ten minutes or more after.
-use bunker::bunkers::Bunker;
+use bunker_laws::settings::Settings;
 use model::refusals::Refusal;
 use model::slips::{Distance, Use};
 use output::writing::write_day;
 use rules::limit::Limit;
-use rules::pair::Pair;
 use rules::rule::Rule;
 use sheet::sheets::Sheet;
 use std::alloc::Global;
 use std::test::Fail;
-use weighbridge::weighbridges::Weighbridge;
-
-type Yard = Pair<Bunker, Pair<Bunker, Weighbridge>>;
+use yard::yards::{HORIZON, Yard, build_yard};
 
 const OUTPUT: &[u8] =
     b"label earliest latest\nopening 0 0\nunhook 0 1430\nweigh 10 1440\n\nverdict loose\nany 2\n";
 
 // The day, not tightened yet.
 fn posted(heap: Global) -> Result<Sheet<Yard>, Fail> {
-    let left = Bunker::new(heap, 0, 500, 500)?;
-    let right = Weighbridge::new(heap)?;
-    let right = Pair { left, right };
-    let left = Bunker::new(heap, 0, 1_000, 0)?;
-    let Ok(mut sheet) = Sheet::rule(heap, Pair { left, right }, 1_440) else {
-        return Err(Fail::new("not ruled"));
-    };
+    let first = Settings::new(0, 1_000, 0)?;
+    let second = Settings::new(0, 500, 500)?;
+    let yard = build_yard(heap, first, second)?;
+    let mut sheet = Sheet::rule(heap, yard, HORIZON).map_err(|_| Fail::new("not ruled"))?;
     sheet.name(b"unhook")?;
     sheet.name(b"weigh")?;
-    let gap = Distance {
-        from: 2,
-        to: 1,
-        minutes: -10,
-    };
+    let gap = Distance::new(2, 1, -10);
     sheet.post_distance(1, gap)?;
-    let tip = Use {
-        first: 1,
-        last: 1,
-        kilos: 400,
-    };
+    let tip = Use::new(1, 1, 400);
     sheet.post_use(0, 1, tip)?;
     Ok(sheet)
 }
@@ -60,11 +46,7 @@ fn whole_output(rt: HostRuntime) -> Result<(), Fail> {
 #[test]
 fn no_plan(rt: HostRuntime) -> Result<(), Fail> {
     let mut sheet = posted(rt.alloc())?;
-    let back = Distance {
-        from: 1,
-        to: 2,
-        minutes: 9,
-    };
+    let back = Distance::new(1, 2, 9);
     sheet.post_distance(2, back)?;
     let _ = sheet.tighten();
     let mut buffer = [b'#'; 23];

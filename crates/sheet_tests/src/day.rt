@@ -1,41 +1,24 @@
 // A day through posting, tightening, looking, withdrawing and tightening again.
-use bunker::bunkers::Bunker;
+use bunker_laws::settings::Settings;
 use model::moments::Moment;
 use model::refusals::Refusal;
 use model::slips::{Distance, Use};
 use model::verdicts::Verdict;
 use rules::limit::Limit;
-use rules::pair::Pair;
 use rules::rule::Rule;
+use runs::answers::Answer;
 use sheet::sheets::Sheet;
 use std::alloc::Global;
 use std::test::Fail;
-use weighbridge::weighbridges::Weighbridge;
-
-type Yard = Pair<Bunker, Pair<Bunker, Weighbridge>>;
+use yard::yards::{HORIZON, Yard, build_yard};
 
 // Two bunkers from 0 to 1,000 kilos, the first empty and the second with 500, and a weighbridge; 1,440 minutes.
 fn ruled(heap: Global) -> Result<Sheet<Yard>, Fail> {
-    let first = Bunker::new(heap, 0, 1_000, 0)?;
-    let second = Bunker::new(heap, 0, 1_000, 500)?;
-    let bridge = Weighbridge::new(heap)?;
-    let right = Pair {
-        left: second,
-        right: bridge,
-    };
-    let yard = Pair { left: first, right };
-    match Sheet::rule(heap, yard, 1_440) {
-        Ok(sheet) => Ok(sheet),
-        Err(_) => Err(Fail::new("not ruled")),
-    }
-}
-
-fn distance(from: usize, to: usize, minutes: i32) -> Distance {
-    Distance { from, to, minutes }
-}
-
-fn use_of(first: usize, last: usize, kilos: i32) -> Use {
-    Use { first, last, kilos }
+    let first = Settings::new(0, 1_000, 0)?;
+    let second = Settings::new(0, 1_000, 500)?;
+    let yard = build_yard(heap, first, second)?;
+    let sheet = Sheet::rule(heap, yard, HORIZON).map_err(Refusal::from)?;
+    Ok(sheet)
 }
 
 // That the point p lies between two minutes, by the slips of these numbers.
@@ -46,10 +29,10 @@ fn window(
     earliest: i32,
     latest: i32,
 ) -> Result<(), Refusal> {
-    sheet.post_distance(number, distance(0, p, latest))?;
+    sheet.post_distance(number, Distance::new(0, p, latest))?;
     sheet.post_distance(
         number.saturating_add(1),
-        distance(p, 0, earliest.saturating_neg()),
+        Distance::new(p, 0, earliest.saturating_neg()),
     )
 }
 
@@ -64,12 +47,12 @@ fn posted(heap: Global) -> Result<Sheet<Yard>, Fail> {
     window(&mut sheet, 3, 2, 20, 60)?;
     window(&mut sheet, 5, 3, 10, 10)?;
     window(&mut sheet, 7, 4, 5, 30)?;
-    sheet.post_distance(9, distance(4, 5, 5))?;
-    sheet.post_distance(10, distance(5, 4, -5))?;
-    sheet.post_use(0, 1, use_of(1, 1, 400))?;
-    sheet.post_use(0, 2, use_of(2, 2, -400))?;
-    sheet.post_use(2, 1, use_of(0, 3, 0))?;
-    sheet.post_use(2, 2, use_of(4, 5, 0))?;
+    sheet.post_distance(9, Distance::new(4, 5, 5))?;
+    sheet.post_distance(10, Distance::new(5, 4, -5))?;
+    sheet.post_use(0, 1, Use::new(1, 1, 400))?;
+    sheet.post_use(0, 2, Use::new(2, 2, -400))?;
+    sheet.post_use(2, 1, Use::new(0, 3, 0))?;
+    sheet.post_use(2, 2, Use::new(4, 5, 0))?;
     Ok(sheet)
 }
 
@@ -77,10 +60,12 @@ fn posted(heap: Global) -> Result<Sheet<Yard>, Fail> {
 fn tightened_and_looked_at(rt: HostRuntime) -> Result<(), Fail> {
     let mut sheet = posted(rt.alloc())?;
     assert_eq!(rt; sheet.bound(0, 1), Err(Refusal::NotTightened));
-    let answer = sheet.tighten();
-    assert_eq!(rt; answer.verdict, Verdict::AnyPlan);
-    assert_eq!(rt; answer.loose, 0b110110);
-    assert_eq!(rt; answer.count, 4);
+    let four_loose = Answer {
+        verdict: Verdict::AnyPlan,
+        loose: 0b110110,
+        count: 4,
+    };
+    assert_eq!(rt; sheet.tighten(), four_loose);
     assert_eq!(rt; sheet.bound(0, 1), Ok(50));
     assert_eq!(rt; sheet.bound(2, 1), Ok(0));
     assert_eq!(rt; sheet.bound(4, 0), Ok(-10));
@@ -107,8 +92,7 @@ fn withdrawn_and_tightened_again(rt: HostRuntime) -> Result<(), Fail> {
     let _ = sheet.tighten();
     sheet.withdraw_use(0, 2)?;
     assert_eq!(rt; sheet.bound(2, 1), Err(Refusal::NotTightened));
-    let answer = sheet.tighten();
-    assert_eq!(rt; answer.verdict, Verdict::AnyPlan);
+    assert_eq!(rt; sheet.tighten().verdict, Verdict::AnyPlan);
     assert_eq!(rt; sheet.bound(2, 1), Ok(30));
     assert_eq!(rt; sheet.levels(0, Moment::Point(2)), Ok(Some((400, 0))));
     sheet.withdraw_distance(7)?;
@@ -123,15 +107,17 @@ fn withdrawn_and_tightened_again(rt: HostRuntime) -> Result<(), Fail> {
 #[test]
 fn clash_is_no_plan(rt: HostRuntime) -> Result<(), Fail> {
     let mut sheet = posted(rt.alloc())?;
-    sheet.post_distance(11, distance(2, 1, 0))?;
-    sheet.post_distance(12, distance(1, 2, -1))?;
-    let answer = sheet.tighten();
-    assert_eq!(rt; answer.verdict, Verdict::NoPlan);
-    assert_eq!(rt; answer.loose, 0);
-    assert_eq!(rt; answer.count, 0);
+    sheet.post_distance(11, Distance::new(2, 1, 0))?;
+    sheet.post_distance(12, Distance::new(1, 2, -1))?;
+    let no_plan = Answer {
+        verdict: Verdict::NoPlan,
+        loose: 0,
+        count: 0,
+    };
+    assert_eq!(rt; sheet.tighten(), no_plan);
     assert_eq!(rt; sheet.bound(0, 1), Err(Refusal::NoPlan));
     assert_eq!(rt;
-        sheet.post_distance(12, distance(1, 2, 0)),
+        sheet.post_distance(12, Distance::new(1, 2, 0)),
         Err(Refusal::NumberStands)
     );
     assert_eq!(rt; sheet.bound(0, 1), Err(Refusal::NoPlan));
@@ -144,30 +130,33 @@ fn refused_calls_in_order(rt: HostRuntime) -> Result<(), Fail> {
     assert_eq!(rt; sheet.name(b"opening"), Err(Refusal::LabelTaken));
     assert_eq!(rt; sheet.name(b""), Err(Refusal::BadLabel));
     assert_eq!(rt; sheet.name(b"gate"), Ok(1));
-    let far = distance(0, 2, 2_000);
+    let far = Distance::new(0, 2, 2_000);
     assert_eq!(rt; sheet.post_distance(0, far), Err(Refusal::BadSlipNumber));
     assert_eq!(rt; sheet.post_distance(1, far), Err(Refusal::NoPoint));
     assert_eq!(rt;
-        sheet.post_distance(1, distance(1, 1, 2_000)),
+        sheet.post_distance(1, Distance::new(1, 1, 2_000)),
         Err(Refusal::SamePoint)
     );
     assert_eq!(rt;
-        sheet.post_distance(1, distance(0, 1, 2_000)),
+        sheet.post_distance(1, Distance::new(0, 1, 2_000)),
         Err(Refusal::BadDistance)
     );
     assert_eq!(rt;
-        sheet.post_use(3, 0, use_of(9, 9, 0)),
+        sheet.post_use(3, 0, Use::new(9, 9, 0)),
         Err(Refusal::NoPlace)
     );
     assert_eq!(rt;
-        sheet.post_use(0, 0, use_of(9, 9, 0)),
+        sheet.post_use(0, 0, Use::new(9, 9, 0)),
         Err(Refusal::BadSlipNumber)
     );
     assert_eq!(rt;
-        sheet.post_use(0, 1, use_of(9, 9, 0)),
+        sheet.post_use(0, 1, Use::new(9, 9, 0)),
         Err(Refusal::NoPoint)
     );
-    assert_eq!(rt; sheet.post_use(0, 1, use_of(1, 1, 0)), Err(Refusal::BadUse));
+    assert_eq!(rt;
+        sheet.post_use(0, 1, Use::new(1, 1, 0)),
+        Err(Refusal::BadUse)
+    );
     assert_eq!(rt; sheet.withdraw_distance(1), Err(Refusal::NotStanding));
     assert_eq!(rt; sheet.withdraw_use(3, 1), Err(Refusal::NoPlace));
     assert_eq!(rt; sheet.withdraw_use(0, 1), Err(Refusal::NotStanding));
