@@ -49,7 +49,10 @@ impl DayFolder {
     ghost use Rattle.dayfolder.specs.Folders.{bridge_of, hall_of, readable};
 
     // Reads both files of a folder.
-    pub fn read<R: Files + AllocGlobal>(rt: &R, folder: &str) -> DayFolder {
+    pub fn read<R: Files + AllocGlobal>(rt: &R, folder: &str) -> DayFolder
+        ensures bridge { IfSome result.bridge (λ bytes. vec_len bytes ≤ MOST_BYTES + 1) }
+        ensures hall { IfSome result.hall (λ bytes. vec_len bytes ≤ MOST_BYTES + 1) }
+    {
         DayFolder {
             bridge: read_file(rt, rt.alloc(), folder, DayFile::Bridge),
             hall: read_file(rt, rt.alloc(), folder, DayFile::Hall),

@@ -44,6 +44,7 @@ fn answer(rt: &HostRuntime, folder: &str) -> anyhow::Result<()> {
     print_example(rt)
 }
 
+// Apart from that of dayplan, since each answers in its own way and names itself.
 fn main(rt: HostRuntime) -> anyhow::Result<()> {
     let words: Vec<String> = env::args(&rt)?.skip(1).collect(rt.alloc())?;
     match Request::of(words.as_slice()) {
