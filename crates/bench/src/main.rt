@@ -4,9 +4,9 @@
 
 use anyhow::anyhow;
 use bunker_laws::settings::Settings;
+use dayfile::faults::DayFile;
 use dayfile::files::DayFiles;
 use dayfile::reading::read_day;
-use dayfolder::folders::DayFolder;
 use dayfolder::printing::MOST_OUTPUT;
 use daytables::rows::FloorLine;
 use planning::plans::plan_day;
@@ -14,8 +14,9 @@ use rules::limit::Limit;
 use rules::rule::Rule;
 use runs::answers::Answer;
 use sheet::sheets::Sheet;
-use std::env;
+use std::path::Path;
 use std::time::Instant;
+use std::{env, fs};
 use yard::yards::{HORIZON, Yard, build_yard};
 
 fn settings_of(line: FloorLine) -> anyhow::Result<Settings> {
@@ -72,9 +73,19 @@ fn time_planning(rt: &HostRuntime, files: DayFiles<'_>, rounds: u32) -> anyhow::
     Ok(took.as_nanos() / u128::from(rounds.max(1)))
 }
 
+// The bytes of a file, or the system's error, which a `DayFolder` would not tell.
+fn bytes_of(rt: &HostRuntime, folder: &str, file: DayFile) -> anyhow::Result<Vec<u8>> {
+    let path = Path::new(folder).join(rt.alloc(), file.name())?;
+    Ok(fs::read(rt, path.as_path())?)
+}
+
 fn time_day(rt: &HostRuntime, folder: &str, rounds: u32) -> anyhow::Result<()> {
-    let day = DayFolder::read(rt, folder);
-    let files = day.files().map_err(|_| anyhow!("a file cannot be read"))?;
+    let bridge = bytes_of(rt, folder, DayFile::Bridge)?;
+    let hall = bytes_of(rt, folder, DayFile::Hall)?;
+    let files = DayFiles {
+        bridge: bridge.as_slice(),
+        hall: hall.as_slice(),
+    };
     let mut sheet = posted(rt, files)?;
     let (answer, tightening) = time_tightening(rt, &mut sheet, rounds)?;
     let planning = time_planning(rt, files, rounds)?;

@@ -3,6 +3,7 @@
 
 use crate::example::{plan_trailer, print_plan};
 use anyhow::anyhow;
+use arrayvec::ArrayVec;
 use dayfile::faults::Fault;
 use dayfolder::arguments::Request;
 use dayfolder::folders::DayFolder;
@@ -46,7 +47,11 @@ fn answer(rt: &HostRuntime, folder: &str) -> anyhow::Result<()> {
 
 // Apart from that of dayplan, since each answers in its own way and names itself.
 fn main(rt: HostRuntime) -> anyhow::Result<()> {
-    let words: Vec<String> = env::args(&rt)?.skip(1).collect(rt.alloc())?;
+    // two words tell as much as all of them, and need no memory
+    let mut words = ArrayVec::<String, 2, _>::new_in(rt.alloc());
+    for word in env::args(&rt)?.skip(1).take(2) {
+        let _ = words.try_push(word);
+    }
     match Request::of(words.as_slice()) {
         Ok(Request::Help) => println!(rt; "{HELP}")?,
         Ok(Request::Day(folder)) => answer(&rt, folder)?,
