@@ -1,8 +1,8 @@
 -- The parts of a text, part by part.
-use Rattle.std.proofs.Common.{◌≡◌, ℕ, zero, suc, ◌+◌, ◌-◌, ◌<◌, ◌≤◌, true, false, List, [], ◌∷◌, length, get_or, take, drop, Some, None, sym, ap, ◌∙◌, arith}
+use Rattle.std.proofs.Common.{◌≡◌, ℕ, zero, suc, ◌+◌, ◌-◌, ◌<◌, ◌≤◌, true, false, List, [], ◌∷◌, ◌++◌, map, length, get_or, take, drop, Some, None, sym, ap, ◌∙◌, arith, Bor}
 use Rattle.std.specs.Prelude.{◌==◌, slice_get}
 use Rattle.std.specs.List.{AllWithin, HoldsAt, position_or_len}
-use Rattle.std.proofs.lemmas.List.{take_rest, length-take, length-drop, get_or-take}
+use Rattle.std.proofs.lemmas.List.{append_assoc, map_push, take_rest, length-take, length-drop, get_or-take}
 use Rattle.std.proofs.lemmas.List.Splits.{slice_split_none, slice_split_first, length-slice_split}
 use Rattle.std.proofs.lemmas.List.Sums.{position_or_len_is, count_by-le-length}
 use Rattle.std.proofs.lemmas.Option.{slice_get_past, slice_get-get_or}
@@ -68,6 +68,25 @@ pub line_unended : (text : List ℕ) (n : ℕ) (rest : List ℕ) → drop n (par
 line_unended text n rest d e =
     let l = length_before n (parts 10 text) (rest ∷ []) (d ∙ e) (omega arith) in
     sym (slice_get_past (lines_of text) n (omega (arith, lines_length text, l)))
+
+-- a line, and those of what stands behind it
+lines_more : (rest line after : List ℕ) → parts 10 rest ≡ line ∷ parts 10 after → lines_of rest ≡ line ∷ lines_of after
+lines_more rest line after e =
+    let ps = parts 10 after in
+    let more = some_part 10 after in
+    let n : suc (length ps) - 1 ≡ suc (length ps - 1) = omega (arith, more) in
+    ap (λ qs. take (length qs - 1) qs) e ∙ ap (λ k. take k (line ∷ ps)) n
+
+pub lines_none : (rest : List ℕ) → parts 10 rest ≡ rest ∷ [] → lines_of rest ≡ []
+lines_none rest e = ap (λ qs. take (length qs - 1) qs) e
+
+pub line_split : (before items : List (Bor (List ℕ))) (line : Bor (List ℕ)) (text rest after : List ℕ) → parts 10 rest ≡ line.now ∷ parts 10 after → items ≡ before ++ line ∷ []
+    → map (λ x. x.now) before ++ lines_of rest ≡ lines_of text → map (λ x. x.now) items ++ lines_of after ≡ lines_of text
+line_split before items line text rest after e i h =
+    ap (λ ls. map (λ x. x.now) ls ++ lines_of after) i
+    ∙ (ap (λ ls. ls ++ lines_of after) (map_push (λ x. x.now) before line)
+    ∙ (append_assoc (map (λ x. x.now) before) (line.now ∷ []) (lines_of after)
+    ∙ (ap (λ ls. map (λ x. x.now) before ++ ls) (sym (lines_more rest line.now after e)) ∙ h)))
 
 -- ---- how many
 

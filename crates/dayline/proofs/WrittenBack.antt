@@ -1,20 +1,12 @@
 -- A number is read from just the bytes that write it in decimals.
-use Rattle.std.proofs.Common.{◌≡◌, ℕ, zero, suc, ◌+◌, ◌-◌, ◌*◌, ◌^◌, ◌<◌, ◌≤◌, Bool, true, false, ◌&&◌, eqb, leb, List, [], ◌∷◌, length, get_or, ℤ, pos, negsuc, nat_abs, Some, None, Ok, Err, decimal, Option, Result, w32, to_z, of_z, sym, refl, ap, ◌∙◌, subst, ⊎_elim, arith, rules}
-use Rattle.std.proofs.lemmas.Fmt.{decimal-digits_value, digits_decimal, digits_value-decimal, decimal_nonempty, first_decimal, decimal_digit, parse-signed_decimal, IsAscii-signed}
-use Rattle.std.proofs.lemmas.Int.{ints}
+use Rattle.std.proofs.Common.{◌≡◌, ℕ, zero, suc, ◌+◌, ◌-◌, ◌*◌, ◌<◌, ◌≤◌, true, false, ◌&&◌, eqb, leb, List, [], ◌∷◌, length, get_or, ℤ, pos, negsuc, Some, None, decimal, Option, sym, refl, ap, ◌∙◌, subst, ⊎_elim, arith, rules}
+use Rattle.std.proofs.lemmas.Fmt.{decimal-digits_value, digits_decimal, digits_value-decimal, decimal_nonempty, first_decimal, decimal_digit}
 use Rattle.std.proofs.lemmas.List.{nil_from_length}
-use Rattle.std.proofs.lemmas.Slice.Eq.{bytes_eq-Decides}
-use Rattle.std.proofs.lemmas.Str.{IsUtf8-from_ascii}
 use Rattle.std.proofs.lemmas.Str.Parse.{IsNumeralModel, numerals_by_fold}
-use Rattle.std.proofs.lemmas.Bool.{cases_Bool, cases_eq, cond-true, cond-false, and_parts, and_from, and_left, false≢true, ne_eqb, eqb-true, eqb-false, leb-true, le-leb}
+use Rattle.std.proofs.lemmas.Bool.{cases_Bool, cases_eq, cond-true, cond-false, and_parts, and_from, and_left, ne_eqb, eqb-true, eqb-false, leb-true, le-leb}
 use Rattle.std.specs.Option.{option_map}
-use Rattle.std.specs.Result.{MatchResult, is_ok, result_ok}
 use Rattle.std.specs.Fmt.{signed_decimal}
-use Rattle.std.specs.Bool.{then_some}
-use Rattle.std.specs.Int.RustNames.{FitsSigned}
-use Rattle.std.specs.Int.Signed.{mag}
-use Rattle.std.specs.Str.{IsUtf8, all_ascii_digits, bytes_eq}
-use Rattle.std.specs.Str.Parse.{ParsesSigned}
+use Rattle.std.specs.Str.{all_ascii_digits}
 use Rattle.dayline.specs.Numbers.{digits_from, positive, in_range, minus, number, Near, ReadsWritten}
 
 -- the number of digits, from the left
@@ -137,56 +129,10 @@ number_from (pos zero) bs h e = ap number (e ∙ decimal_digit 0 (omega arith))
 number_from (pos (suc n)) bs h e = plain_from (suc n) bs e (omega arith) h
 number_from (negsuc n) bs h e = ap number e ∙ ap (option_map minus) (positive_from (suc n) (decimal (suc n)) refl (omega arith) (omega arith))
 
+pub reads_written : (bs : List ℕ) (r : Option ℤ) → r ≡ number bs → ReadsWritten bs r
+reads_written bs None e = λ z near w. none_some z (e ∙ number_from z bs near w)
+reads_written bs (Some z) e = number_to bs z (sym e)
+
 -- a number that is read is near
 pub number_near : (bs : List ℕ) (z : ℤ) → number bs ≡ Some z → Near z
 number_near bs z e = (number_to bs z e).0
-
--- ---- what the library reads of the bytes, and writes again
-
-near_fits : (z : ℤ) → Near z → FitsSigned w32 z × (mag z < 2 ^ 63) × (to_z w32 (of_z w32 z) ≡ z)
-near_fits (pos n) h = (record { sfits = omega arith }, omega (arith, ints), omega (arith, ints))
-near_fits (negsuc n) h = (record { sfits = omega arith }, omega (arith, ints), omega (arith, ints))
-
-near_small : (z : ℤ) → nat_abs z ≤ 100000000 → Near z
-near_small (pos n) h = h
-near_small (negsuc n) h = omega arith
-
-near_abs : (z : ℤ) → Near z → nat_abs z ≤ 100000000
-near_abs (pos n) h = h
-near_abs (negsuc n) h = omega arith
-
-module _ (bs : List ℕ) where
-  -- bytes that are read as what they write are read as the number that they are
-  same_number : (r o : Option ℤ) → ReadsWritten bs r → o ≡ number bs → r ≡ o
-  same_number None None w e = refl
-  same_number None (Some z) w e = let t = number_to bs z (sym e) in absurd (w z t.0 t.1)
-  same_number (Some z) o w e = sym (e ∙ number_from z bs w.0 w.1)
-
-  pub reads : (r : Option ℤ) → ReadsWritten bs r → (r ≡ number bs) × ReadsWritten bs r
-  reads r w = (same_number r (number bs) w refl, w)
-
-  -- bytes that are no text
-  pub no_text : {T E : Type 0} (P : T → Type 0) (Q : E → Type 0) (r : Result T E) → false ≡ is_ok r → MatchResult r P (λ e. (IsUtf8 bs → ⊥) × Q e) → ReadsWritten bs None
-  no_text P Q (Ok x) q m = absurd (false≢true q)
-  no_text P Q (Err x) q m = λ z near e. m.0 (subst IsUtf8 (sym e) (IsUtf8-from_ascii (signed_decimal z) (IsAscii-signed z (near_fits z near).1)))
-
-  module _ {E : Type 0} (r : Result ℤ E) (parses : ParsesSigned w32 10 bs r) where
-    parsed : (z : ℤ) → Near z → bs ≡ signed_decimal z → r ≡ Ok z
-    parsed z near e = let f = near_fits z near in parse-signed_decimal w32 z bs r f.0 f.1 e parses
-
-    -- a text that is not read
-    pub not_parsed : false ≡ is_ok r → ReadsWritten bs None
-    not_parsed q = λ z near e. false≢true (q ∙ ap is_ok (parsed z near e))
-
-    -- in 32 bits it is the same number
-    same : (n : ℤ) → Some n ≡ result_ok r → (z : ℤ) → Near z → bs ≡ signed_decimal z → to_z w32 (of_z w32 n) ≡ z
-    same n q z near e = let k : ◌≡◌ {A = Option ℤ} (Some n) (Some z) = q ∙ ap result_ok (parsed z near e) in let k : n ≡ z = cc in ap (λ y. to_z w32 (of_z w32 y)) k ∙ (near_fits z near).2
-
-    -- a number that is far
-    pub far : (n : ℤ) → Some n ≡ result_ok r → 100000000 < nat_abs (to_z w32 (of_z w32 n)) → ReadsWritten bs None
-    far n q h = λ z near e. let near_by = same n q z near e in omega (arith, ap nat_abs near_by, near_abs z near)
-
-    -- a number, if the bytes are how it is written
-    pub written : (n : ℤ) → Some n ≡ result_ok r → nat_abs (to_z w32 (of_z w32 n)) ≤ 100000000 → (b : Bool) → b ≡ bytes_eq (signed_decimal (to_z w32 (of_z w32 n))) bs → ReadsWritten bs (then_some b (to_z w32 (of_z w32 n)))
-    written n q h true e = (near_small _ h, sym ((bytes_eq-Decides (signed_decimal (to_z w32 (of_z w32 n))) bs).0 (sym e)))
-    written n q h false e = λ z near s. false≢true (e ∙ (bytes_eq-Decides (signed_decimal (to_z w32 (of_z w32 n))) bs).1 (ap signed_decimal (same n q z near s) ∙ sym s))

@@ -34,12 +34,17 @@ pub(crate) fn skip(text: &[u8], at: u8, n: usize) -> Option<&[u8]>
 }
 
 // The lines of a file.
+#[tactic(auto, using(crate::proofs::Pieces::lines_none))]
 pub fn split_lines(heap: Global, text: &[u8]) -> Result<Vec<&[u8]>, AllocError>
     ensures { IfOk result (λ v. map (λ x. x.now) v.items ≡ lines_of text.now) }
 {
-    let mut lines = text.split(|b| *b == b'\n').collect::<Vec<_>>(heap)?;
-    // what stands behind the last line feed is no line
-    lines.pop();
+    // a loop, since a `collect` of `split` would claim room for what stands behind the last line feed, which is no line
+    let mut lines = Vec::new(heap);
+    let mut left = text;
+    while let Some((line, after)) = cut(left, b'\n') {
+        lines.push(line)?;
+        left = after;
+    }
     Ok(lines)
 }
 

@@ -1,38 +1,44 @@
-use Rattle.std.proofs.Common.{◌≡◌, List, ℕ, Some, Ok, Err, Result, Bor, ap, ◌∙◌}
-use Rattle.std.specs.Result.{MatchResult, result_ok}
-use Rattle.std.specs.Str.{bytes_eq}
-use Rattle.dayline.proofs.WrittenBack.{reads, no_text, not_parsed, far, written}
+use Rattle.std.proofs.Common.{◌≡◌, ◌<◌, length, Some, None, sym, ap, ◌∙◌, rules, eqb-true}
+use Rattle.dayline.specs.Numbers.{number}
+use Rattle.dayline.proofs.ByteNumbers.{after_minus, zero_alone, without_sign, negated, cast, no_bytes}
+use Rattle.dayline.proofs.WrittenBack.{reads_written}
 use Rattle.dayline.proofs.numbers.read_number.Goals as goal
 
--- the text is the bytes
-text_is : {E : Type 0} (P : Type 0) (Q : E → Type 0) (r : Result (Bor (List ℕ)) E) (bs : List ℕ) (s : Bor (List ℕ)) → Some s ≡ result_ok r → MatchResult r (λ s. (s.now ≡ bs) × P) Q → s.now ≡ bs
-text_is P Q (Ok x) bs s e m = let q : s ≡ x = cc in ap (λ x. x.now) q ∙ m.0
-text_is P Q (Err why) bs s e m = cc
+pub returns-then-is_empty : goal.returns-then-is_empty
+returns-then-is_empty c =
+    let e = no_bytes c.args.bytes.now (eqb-true _ _ (sym c.if-is_empty.ensures)) in
+    record { value = e; written = reads_written c.args.bytes.now None e }
 
-pub returns-in_err-ok : goal.returns-in_err-ok
-returns-in_err-ok c =
+pub returns-in_err-n : goal.returns-in_err-n
+returns-in_err-n c =
     let bs = c.args.bytes.now in
-    let p = reads bs _ (no_text bs _ _ c.from_utf8.result c.in_err-ok.ensures.variant c.from_utf8.ensures.cases) in
-    rw c.from_residual.ensures (record { value = p.0; written = p.1 })
+    let some : 0 < length bs = search rules in
+    let e : c.from_residual.result ≡ number bs = c.from_residual.ensures ∙ after_minus bs None some c.if-bytes-eq45.true c.in_err-n.ensures.value in
+    record { value = e; written = reads_written bs _ e }
 
-pub returns-in_err-number : goal.returns-in_err-number
-returns-in_err-number c =
+pub returns-then-bytes-eq45 : goal.returns-then-bytes-eq45
+returns-then-bytes-eq45 c =
     let bs = c.args.bytes.now in
-    let text = text_is _ _ c.from_utf8.result bs c.in_ok-ok.field-0 c.in_ok-ok.ensures.value c.from_utf8.ensures.cases in
-    let p = reads bs _ (not_parsed bs c.parse.result (rw text at c.parse.ensures.value.0) c.in_err-number.ensures.variant) in
-    rw c.from_residual-in_err-number.ensures (record { value = p.0; written = p.1 })
+    let some : 0 < length bs = search rules in
+    let e = ap (λ z. Some z) (negated c.in_ok-n.n c.in_ok-n.ensures.bound) ∙ after_minus bs (Some c.in_ok-n.n) some c.if-bytes-eq45.true c.in_ok-n.ensures.value in
+    record { value = e; written = reads_written bs _ e }
 
-pub returns-then-unsigned_abs-gt-MOST : goal.returns-then-unsigned_abs-gt-MOST
-returns-then-unsigned_abs-gt-MOST c =
+pub returns-then-bytes-eq1 : goal.returns-then-bytes-eq1
+returns-then-bytes-eq1 c =
+    let e = zero_alone c.args.bytes.now c.if-bytes-eq48.true c.if-bytes-eq1.true in
+    record { value = e; written = reads_written c.args.bytes.now _ e }
+
+pub returns-in_err-n-2 : goal.returns-in_err-n-2
+returns-in_err-n-2 c =
     let bs = c.args.bytes.now in
-    let text = text_is _ _ c.from_utf8.result bs c.in_ok-ok.field-0 c.in_ok-ok.ensures.value c.from_utf8.ensures.cases in
-    let p = reads bs _ (far bs c.parse.result (rw text at c.parse.ensures.value.0) c.in_ok-number.number c.in_ok-number.ensures.value (rw (← c.unsigned_abs.ensures.value) c.if-unsigned_abs-gt-MOST.true)) in
-    record { value = p.0; written = p.1 }
+    let some : 0 < length bs = search rules in
+    let e : c.from_residual-in_err-n-2.result ≡ number bs
+    = c.from_residual-in_err-n-2.ensures ∙ without_sign bs None some c.if-bytes-eq45.false c.else-bytes-eq48.either c.in_err-n-2.ensures.value in
+    record { value = e; written = reads_written bs _ e }
 
 pub returns : goal.returns
 returns c =
     let bs = c.args.bytes.now in
-    let text = text_is _ _ c.from_utf8.result bs c.in_ok-ok.field-0 c.in_ok-ok.ensures.value c.from_utf8.ensures.cases in
-    let written_as = c.as_bytes.ensures.value ∙ c.format.ensures.text in
-    let p = reads bs _ (written bs c.parse.result (rw text at c.parse.ensures.value.0) c.in_ok-number.number c.in_ok-number.ensures.value (rw (← c.unsigned_abs.ensures.value) c.if-unsigned_abs-gt-MOST.false) c.eq.result (c.eq.ensures ∙ ap (λ t. bytes_eq t bs) written_as)) in
-    rw c.then_some.ensures (record { value = p.0; written = p.1 })
+    let some : 0 < length bs = search rules in
+    let e = ap (λ z. Some z) (cast c.in_ok-n-2.n c.in_ok-n-2.ensures.bound) ∙ without_sign bs (Some c.in_ok-n-2.n) some c.if-bytes-eq45.false c.else-bytes-eq48.either c.in_ok-n-2.ensures.value in
+    record { value = e; written = reads_written bs _ e }
