@@ -1,3 +1,4 @@
 mod Lists
+mod Prefixes
 mod Pushes
 mod Searches

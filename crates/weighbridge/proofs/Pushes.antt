@@ -1,47 +1,56 @@
 -- What one more crossing adds to what a table tells of the crossings before it.
-use Rattle.std.proofs.Common.{◌≡◌, ℕ, Bool, ◌⊎◌, List, [], ◌∷◌, ◌++◌, ℤ, pos, ◌≤ℤ◌, Decides, sym, ap, ◌∙◌, subst, inl, inr, ⊎_elim}
-use Rattle.std.proofs.lemmas.Bool.Decides.{Decides-like}
+use Rattle.std.proofs.Common.{◌≡◌, ℕ, ◌⊎◌, List, [], ◌∷◌, ◌++◌, ℤ, pos, ◌≤ℤ◌, sym, ap, ◌∙◌, subst, inl, inr, ⊎_elim}
 use Rattle.std.proofs.lemmas.List.{map-append}
 use Rattle.std.specs.List.{IsLastAndRest}
-use Rattle.model.proofs.Members.{in_last}
+use Rattle.model.proofs.Members.{in_front, in_last}
 use Rattle.model.proofs.Narrowings.{narrowed_like}
 use Rattle.model.specs.Narrowings.{Narrowed}
 use Rattle.model.specs.Plans.{View}
 use Rattle.model.specs.declared.slips.Use.{Use}
 use Rattle.register.specs.Lookups.{what_of}
 use Rattle.register.specs.declared.records.Numbered.{Numbered}
-use Rattle.weighbridge.proofs.Lists.{in_push, in_earlier, two_earlier, two_last, two_swap, two_push}
+use Rattle.weighbridge.proofs.Lists.{in_push, in_earlier, two_front, two_earlier, two_last, two_swap, two_push}
+use Rattle.weighbridge.proofs.Prefixes.{Grows, Shrinks}
 use Rattle.weighbridge.specs.Crossings.{uses_of, Overlap, Conflicts, Apart, Clear, Turn, Turns, Precedence}
 use Rattle.weighbridge_laws.specs.Weighbridges.{Refuses, Vouches, Gives}
 
-module _ (m : View) (us : List Use) (u : Use) where
-  refused : Conflicts m us u ⊎ Refuses us m → Refuses (us ++ u ∷ []) m
-  refused (inl (inl low)) = Refuses.reversed u (in_last u us) low
-  refused (inl (inr w)) = Refuses.overlap w.0 u (two_last w.0 u us w.1) w.2.0 w.2.1
-  refused (inr (Refuses.reversed v h low)) = Refuses.reversed v (in_earlier v u us h) low
-  refused (inr (Refuses.overlap a b two ab ba)) = Refuses.overlap a b (two_earlier a b u us two) ab ba
+module _ (m : View) where
+  pub refuses_grows : Grows (λ us. Refuses us m) (Conflicts m)
+  refuses_grows = record { none = none; front = front; last = last; push = push }
+    where
+      none : Refuses [] m → ⊥
+      none (Refuses.reversed u h low) = h
+      none (Refuses.overlap a b two ab ba) = ⊎_elim (λ h. h) (λ h. h) two
 
-  refused_parts : Refuses (us ++ u ∷ []) m → Conflicts m us u ⊎ Refuses us m
-  refused_parts (Refuses.reversed v h low) = ⊎_elim (λ k. inr (Refuses.reversed v k low)) (λ e. inl (inl (rw e low))) (in_push v u us h)
-  refused_parts (Refuses.overlap a b two ab ba) =
-      two_push a b u us
-      (λ h. inr (Refuses.overlap a b h ab ba))
-      (λ h e. inl (inr (a, h, subst (Overlap m a) (sym e) (ab, ba))))
-      (λ h e. inl (inr (b, h, subst (Overlap m b) (sym e) (ba, ab))))
-      two
+      front : (us vs : List Use) → Refuses us m → Refuses (us ++ vs) m
+      front us vs (Refuses.reversed u h low) = Refuses.reversed u (in_front u us vs h) low
+      front us vs (Refuses.overlap a b two ab ba) = Refuses.overlap a b (two_front a b us vs two) ab ba
 
-  vouched : Clear m us u × Vouches us m → Vouches (us ++ u ∷ []) m
-  vouched (clear, v) = record {
-    order = λ w h. ⊎_elim (v.order w) (λ e. subst (λ x. m.at x.last x.first ≤ℤ pos 0) e clear.0) (in_push w u us h);
-    apart = λ a b. two_push a b u us (v.apart a b) (λ h e. subst (Apart m a) e (clear.1 a h)) (λ h e. ⊎_elim inr inl (subst (Apart m b) e (clear.1 b h)));
+      last : (us : List Use) (u : Use) → Conflicts m us u → Refuses (us ++ u ∷ []) m
+      last us u (inl low) = Refuses.reversed u (in_last u us) low
+      last us u (inr w) = Refuses.overlap w.0 u (two_last w.0 u us w.1) w.2.0 w.2.1
+
+      push : (us : List Use) (u : Use) → Refuses (us ++ u ∷ []) m → Refuses us m ⊎ Conflicts m us u
+      push us u (Refuses.reversed v h low) = ⊎_elim (λ k. inl (Refuses.reversed v k low)) (λ e. inr (inl (rw e low))) (in_push v u us h)
+      push us u (Refuses.overlap a b two ab ba) =
+          two_push a b u us
+          (λ h. inl (Refuses.overlap a b h ab ba))
+          (λ h e. inr (inr (a, h, subst (Overlap m a) (sym e) (ab, ba))))
+          (λ h e. inr (inr (b, h, subst (Overlap m b) (sym e) (ba, ab))))
+          two
+
+  pub vouches_shrinks : Shrinks (λ us. Vouches us m) (Clear m)
+  vouches_shrinks = record {
+    none = record { order = λ u h. absurd h; apart = λ a b. ⊎_elim (λ h. absurd h) (λ h. absurd h) };
+    front = λ us vs v. record { order = λ u h. v.order u (in_front u us vs h); apart = λ a b h. v.apart a b (two_front a b us vs h) };
+    last = λ us u v. (v.order u (in_last u us), λ a h. v.apart a u (two_last a u us h));
+    push = λ us u v clear. record {
+      order = λ w h. ⊎_elim (v.order w) (λ e. subst (λ x. m.at x.last x.first ≤ℤ pos 0) e clear.0) (in_push w u us h);
+      apart = λ a b. two_push a b u us (v.apart a b) (λ h e. subst (Apart m a) e (clear.1 a h)) (λ h e. ⊎_elim inr inl (subst (Apart m b) e (clear.1 b h)));
+    };
   }
 
-  vouched_parts : Vouches (us ++ u ∷ []) m → Clear m us u × Vouches us m
-  vouched_parts v = (
-    (v.order u (in_last u us), λ a h. v.apart a u (two_last a u us h)),
-    record { order = λ w h. v.order w (in_earlier w u us h); apart = λ a b h. v.apart a b (two_earlier a b u us h) },
-  )
-
+module _ (m : View) (us : List Use) (u : Use) where
   given : (i j : ℕ) (c : ℤ) → Gives us m i j c ⊎ Precedence m us u i j c → Gives (us ++ u ∷ []) m i j c
   given i j c (inl (Gives.order v h ei ej ec)) = Gives.order v (in_earlier v u us h) ei ej ec
   given i j c (inl (Gives.turn a b two low ei ej ec)) = Gives.turn a b (two_earlier a b u us two) low ei ej ec
@@ -74,12 +83,6 @@ module _ (m : View) (us : List Use) (u : Use) where
 module _ (m : View) (xs rest : List (Numbered Use)) (x : Numbered Use) (parts : IsLastAndRest xs x rest) where
   whole : uses_of rest ++ x.what ∷ [] ≡ uses_of xs
   whole = sym (ap uses_of parts.0 ∙ map-append what_of rest (x ∷ []))
-
-  pub refuses_last : (r : Bool) → Decides r (Conflicts m (uses_of rest) x.what ⊎ Refuses (uses_of rest) m) → Decides r (Refuses (uses_of xs) m)
-  refuses_last r d = subst (λ us. Decides r (Refuses us m)) whole (Decides-like r (refused m (uses_of rest) x.what) (refused_parts m (uses_of rest) x.what) d)
-
-  pub vouches_last : (r : Bool) → Decides r (Clear m (uses_of rest) x.what × Vouches (uses_of rest) m) → Decides r (Vouches (uses_of xs) m)
-  vouches_last r d = subst (λ us. Decides r (Vouches us m)) whole (Decides-like r (vouched m (uses_of rest) x.what) (vouched_parts m (uses_of rest) x.what) d)
 
   pub gives_last : (before after : View) → Narrowed (λ i j c. Gives (uses_of rest) m i j c ⊎ Precedence m (uses_of rest) x.what i j c) before after → Narrowed (Gives (uses_of xs) m) before after
   gives_last before after n =

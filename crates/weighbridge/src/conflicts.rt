@@ -29,13 +29,15 @@ fn conflicts(table: &Table, others: &[Numbered<Use>], b: Use) -> bool
     table.get(b.first, b.last) < 0 || overlaps_one(table, others, b)
 }
 
-// Whether any of the uses conflicts with itself or with one before it. It calls itself: of an `any` over the places, each with the
-// uses before it, the proof that it decides Refuses did not close.
+// Whether any of the uses conflicts with itself or with one before it. A loop over places: of an `any` over them, each with the uses
+// before it, the proof that it decides Refuses did not close, and a call of itself on the uses but the last finds an early conflict late.
 pub(crate) fn any_conflict(table: &Table, uses: &[Numbered<Use>]) -> bool
     ensures { Decides result (Refuses (uses_of uses.now) (table_view table.now)) }
 {
-    let Some((b, others)) = uses.split_last() else {
-        return false;
-    };
-    conflicts(table, others, b.what) || any_conflict(table, others)
+    for (i, b) in uses.iter().enumerate() {
+        if conflicts(table, &uses[0..i], b.what) {
+            return true;
+        }
+    }
+    false
 }

@@ -29,12 +29,14 @@ fn clear(table: &Table, others: &[Numbered<Use>], b: Use) -> bool
     table.get(b.last, b.first) <= 0 && apart_from_all(table, others, b)
 }
 
-// Whether each of the uses is clear of those before it. It calls itself, as any_conflict does.
+// Whether each of the uses is clear of those before it. A loop, as in any_conflict.
 pub(crate) fn all_clear(table: &Table, uses: &[Numbered<Use>]) -> bool
     ensures { Decides result (Vouches (uses_of uses.now) (table_view table.now)) }
 {
-    let Some((b, others)) = uses.split_last() else {
-        return true;
-    };
-    clear(table, others, b.what) && all_clear(table, others)
+    for (i, b) in uses.iter().enumerate() {
+        if !clear(table, &uses[0..i], b.what) {
+            return false;
+        }
+    }
+    true
 }
