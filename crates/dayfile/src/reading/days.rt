@@ -18,7 +18,7 @@ const FLOOR_LINES: usize = 4;
 #[derive(Drop)]
 pub struct ReadDay<'a> {
     pub reading: Reading<'a>,
-    ghost sound: { Sound (read_of reading) },
+    pub ghost sound: { Sound (read_of reading) },
 }
 
 // All lines, in the order of reading: the floor table of hall.day, bridge.day, and the place table of hall.day.
@@ -49,7 +49,8 @@ fn read_if_readable<'a>(heap: Global, files: DayFiles<'a>) -> Result<Reading<'a>
 // Reads a day: what its lines stand for in the order of reading, up to the first fault of the files, a line or a field. What the
 // sheet and the bunkers refuse is not known yet: `first_fault` tells which fault comes first.
 pub fn read_day<'a>(heap: Global, files: DayFiles<'a>) -> Result<ReadDay<'a>, AllocError>
-    ensures { IfOk result (λ x. read_of x.reading ≡ reads files.entry.bridge.now files.entry.hall.now) }
+    ensures value { IfOk result (λ x. read_of x.reading ≡ reads files.entry.bridge.now files.entry.hall.now) }
+    ensures sound { IfOk result (λ x. Sound (read_of x.reading)) }
 {
     let reading = read_if_readable(heap, files)?;
     Ok(ReadDay { reading })
