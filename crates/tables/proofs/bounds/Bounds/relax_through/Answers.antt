@@ -1,13 +1,15 @@
 use Rattle.std.proofs.lemmas.Result.{on_ok_weaker}
-use Rattle.std.proofs.Common.{refl}
-use Rattle.tables.proofs.Relaxed.{long_rows, long_through, relaxed_through}
+use Rattle.std.proofs.Common.{refl, arith}
+use Rattle.std.proofs.lemmas.List.{set-get_or}
+use Rattle.tables.proofs.Relaxed.{told_long, told_relaxed, row_kept}
 use Rattle.tables.proofs.bounds.Bounds.relax_through.Goals as goal
 
 pub returns-clause-test : goal.returns-clause-test
 returns-clause-test c =
-    let b = c.args.self.now in
-    let test = c.relax_rows.ensures.test in
-    (λ e. long_through b c.args.k c.requires (test.0 e), λ long. test.1 (long_rows b c.args.k c.requires long))
+    let kept = row_kept c.args.self.now c.args.k c.requires in
+    told_long c.args.self.now c.args.k c.requires c.relax_rows.ensures.test (grind (arith, set-get_or, kept))
 
 pub returns-clause-after : goal.returns-clause-after
-returns-clause-after c = on_ok_weaker c.relax_rows.result (relaxed_through c.args.self.now c.args.k c.requires _ refl) c.relax_rows.ensures.after
+returns-clause-after c =
+    let kept = row_kept c.args.self.now c.args.k c.requires in
+    on_ok_weaker c.relax_rows.result (told_relaxed c.args.self.now c.args.k c.requires _ refl (grind (arith, set-get_or, kept))) c.relax_rows.ensures.after
