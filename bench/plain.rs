@@ -24,13 +24,13 @@ enum Moment {
 #[derive(Clone, Copy)]
 struct Bounds {
     points: usize,
-    entries: [i16; 4096],
+    entries: [[i16; 64]; 64],
 }
 
 impl Bounds {
     fn get(&self, i: usize, j: usize) -> i32 {
         if i < self.points && j < self.points {
-            i32::from(self.entries[i * 64 + j])
+            i32::from(self.entries[i][j])
         } else {
             10_080
         }
@@ -38,31 +38,29 @@ impl Bounds {
 
     fn lower(&mut self, i: usize, j: usize, v: i32) {
         if i < self.points && j < self.points && v < self.get(i, j) {
-            self.entries[i * 64 + j] = v.max(-10_081) as i16;
+            self.entries[i][j] = v.max(-10_081) as i16;
         }
     }
 
     fn relax_through(&mut self, k: usize) -> bool {
-        let mut over = [0; 64];
-        over.copy_from_slice(&self.entries[k * 64..k * 64 + 64]);
-        for i in 0..self.points {
-            let first = self.entries[i * 64 + k];
-            if !relax_each(&mut self.entries[i * 64..i * 64 + self.points], first, &over) {
+        let over = self.entries[k];
+        let over = &over[..self.points];
+        let shortest = over.iter().fold(10_080, |least, rest| least.min(*rest));
+        for row in &mut self.entries[..self.points] {
+            let first = row[k];
+            if i32::from(first) + i32::from(shortest) < -10_080 {
                 return false;
             }
+            relax_row(row, first, over);
         }
         true
     }
 }
 
-fn relax_each(row: &mut [i16], first: i16, over: &[i16]) -> bool {
-    let mut least: i16 = 0;
+fn relax_row(row: &mut [i16; 64], first: i16, over: &[i16]) {
     for (entry, rest) in row.iter_mut().zip(over) {
-        let v = first + rest;
-        least = least.min(v);
-        *entry = (*entry).min(v.max(-10_081));
+        *entry = (*entry).min(first + rest);
     }
-    least >= -10_080
 }
 
 #[derive(Clone, Copy)]
@@ -73,7 +71,7 @@ struct Table {
 
 impl Table {
     fn new(points: usize) -> Table {
-        let mut bounds = Bounds { points, entries: [HORIZON as i16; 4096] };
+        let mut bounds = Bounds { points, entries: [[HORIZON as i16; 64]; 64] };
         for p in 0..points {
             bounds.lower(p, p, 0);
             bounds.lower(p, 0, 0);
