@@ -1,6 +1,7 @@
 -- The options that a use has left.
-use Rattle.std.specs.Prelude.{◌≡◌, Bool, true, false, ℤ, pos}
+use Rattle.std.specs.Prelude.{◌≡◌, Bool, true, false, ℤ, pos, Option, Some, None}
 use Rattle.bunker.specs.declared.options.Options.{Options}
+use Rattle.bunker.specs.declared.options.Worth.{Worth}
 use Rattle.bunker.specs.declared.options.Options.TheVariants.{Both, Active, Idle, Neither}
 use Rattle.std.specs.Int.{int_max, int_min}
 
@@ -16,6 +17,13 @@ low_of (Both w) = int_min w.kilos (pos 0)
 low_of (Active w) = w.kilos
 low_of Idle = pos 0
 low_of Neither = pos 0
+
+-- the worth of a use to which both are left
+abbrev pub both_of : Options → Option Worth
+both_of (Both w) = Some w
+both_of (Active w) = None
+both_of Idle = None
+both_of Neither = None
 
 -- active is left for so much, or not, and so is idle
 abbrev pub Leaves : Options → (active idle : Bool) → (kilos : ℤ) → Type 0

@@ -51,7 +51,17 @@ pub(crate) enum Options {
 }
 
 impl Options {
-    ghost use Rattle.bunker.specs.Choices.{high_of, low_of};
+    ghost use Rattle.bunker.specs.Choices.{high_of, low_of, both_of};
+
+    // What the use is worth while it is active, where both options are left.
+    pub(crate) fn undecided(self) -> Option<Worth>
+        ensures { result ≡ both_of self }
+    {
+        match self {
+            Options::Both(worth) => Some(worth),
+            _ => None,
+        }
+    }
 
     // The largest and the smallest worth among the options, or 0.
     pub(crate) fn levels(self) -> Levels

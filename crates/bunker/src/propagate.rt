@@ -7,7 +7,7 @@ ghost use Rattle.model.specs.Uses.{In};
 ghost use Rattle.tables.specs.Views.{Lowers};
 
 use crate::bunkers::Bunker;
-use crate::options::{Options, Worth};
+use crate::options::Worth;
 use crate::profile::Profile;
 use crate::requiring::{TableInDay, require_order};
 use crate::stretches::Stretch;
@@ -24,7 +24,7 @@ impl Bunker {
         ensures { Lowers (told Follows self.now day.entry.here.table.now day.entry.here.at what) bounds.old bounds.new }
     {
         let options = day.here.options(what);
-        let Options::Both(worth) = options else {
+        let Some(worth) = options.undecided() else {
             return;
         };
         if profile.rules_out(self.settings, options, Worth::IDLE) {
