@@ -2,6 +2,7 @@
 ghost use Rattle.std.specs.Prelude.{◌≡◌, ℕ, ◌<◌, Bool, [], ◌++◌, Ok};
 ghost use Rattle.model.specs.Labels.{text_of};
 ghost use Rattle.model.specs.Plans.{View};
+ghost use Rattle.model.specs.Verdicts.{word_of};
 ghost use Rattle.output.specs.Output.{line, earliest_of, latest_of, point_line, point_table, verdict_table};
 ghost use Rattle.output.specs.Written.{IsText, Wrote};
 ghost use Rattle.runs.specs.Shown.{Shown};
@@ -52,12 +53,19 @@ fn push_table<L: Limit>(text: &mut Text, sheet: &Sheet<L>) -> Result<(), Refusal
     Ok(())
 }
 
+// The word of a verdict, as bytes.
+fn word_of(verdict: Verdict) -> &'static [u8]
+    ensures { result.now ≡ word_of verdict }
+{
+    verdict.word().as_bytes()
+}
+
 // The table of the verdict.
 fn push_verdict(text: &mut Text, answer: Answer)
     ensures { text.new ≡ cut (text.old ++ verdict_table answer) }
 {
     text.push_bytes(b"verdict loose\n");
-    text.push_bytes(answer.verdict.word().as_bytes());
+    text.push_bytes(word_of(answer.verdict));
     text.push(b' ');
     text.push_unsigned(answer.count);
     text.push(b'\n');

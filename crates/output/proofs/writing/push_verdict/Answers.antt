@@ -3,4 +3,4 @@ use Rattle.texts.proofs.Cuts.{cut_front}
 use Rattle.output.proofs.writing.push_verdict.Goals as goal
 
 pub returns : goal.returns
-returns c = simp (c.push-2.ensures, c.push_unsigned.ensures, c.push.ensures, c.push_bytes-2.ensures, c.as_bytes.ensures.value, c.word.ensures, c.push_bytes.ensures, cut_front, append_assoc)
+returns c = simp (c.push-2.ensures, c.push_unsigned.ensures, c.push.ensures, c.push_bytes-2.ensures, c.word_of.ensures, c.push_bytes.ensures, cut_front, append_assoc)
